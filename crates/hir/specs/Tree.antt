@@ -22,23 +22,23 @@ pub record Op : Type 0 where
 
 -- values; an instruction is its id, lvalue, value and span
 mutual
-  pub data Value : Type 0 where
-    operation : Op → Value
-    logical : LogicalOperator → Value → Value → Value
-    conditional : Value → Value → Value → Value
-    sequence : Instrs → ℕ → Value → Value
-    optional : Value → Bool → Value
+  pub data Val : Type 0 where
+    operation : Op → Val
+    logical : LogicalOperator → Val → Val → Val
+    conditional : Val → Val → Val → Val
+    sequence : Instrs → ℕ → Val → Val
+    optional : Val → Bool → Val
 
   pub data Instr : Type 0 where
-    instr : ℕ → Option Place → Value → ℕ → Instr
+    instr : ℕ → Option Place → Val → ℕ → Instr
 
   pub data Instrs : Type 0 where
     inil : Instrs
     icons : Instr → Instrs → Instrs
 
-pub data OptValue : Type 0 where
-  noValue : OptValue
-  someValue : Value → OptValue
+pub data OptVal : Type 0 where
+  noVal : OptVal
+  someVal : Val → OptVal
 
 -- statements; the fields of a terminal stand in the order in which the compiler declares them
 mutual
@@ -54,11 +54,11 @@ mutual
     return : Place → ℕ → Term
     throw : Place → ℕ → Term
     switch : Place → Cases → ℕ → Term
-    doWhile : Block → Value → ℕ → Term
-    while : Value → Block → ℕ → Term
-    for : Value → Value → OptValue → Block → ℕ → Term
-    forOf : Value → Value → Block → ℕ → ℕ → Term
-    forIn : Value → Block → ℕ → ℕ → Term
+    doWhile : Block → Val → ℕ → Term
+    while : Val → Block → ℕ → Term
+    for : Val → Val → OptVal → Block → ℕ → Term
+    forOf : Val → Val → Block → ℕ → ℕ → Term
+    forIn : Val → Block → ℕ → ℕ → Term
     if : Place → Block → OptBlock → ℕ → Term
     label : Block → ℕ → Term
     try : Block → Option Place → Block → ℕ → Term
@@ -76,12 +76,12 @@ mutual
     cons : Stmt → Block → Block
 
 -- a scope: its record, if it has one, and its declarations
-pub record Scope : Type 0 where
+pub record ScopeInfo : Type 0 where
   pub early : Option ReactiveScopeEarlyReturn
   pub declarations : List ReactiveScopeDeclaration
 
 pub record Function : Type 0 where
   pub counters : Counters
   pub identifiers : List Identifier
-  pub scopes : List Scope
+  pub scopes : List ScopeInfo
   pub body : Block

@@ -1,0 +1,1 @@
+// Loads a function file into tables.

@@ -1,0 +1,1 @@
+// A function runs against a host, step by step.

@@ -1,0 +1,1 @@
+// Writes the function that tables hold as a file.
