@@ -1,0 +1,1 @@
+// A list of calls on a loaded function keeps what the function does.
