@@ -1,1 +1,1 @@
-// The pass that carries early returns out of reactive scopes, and label pruning.
+// The pass that carries early returns out of reactive scopes.
