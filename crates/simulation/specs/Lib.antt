@@ -1,0 +1,2 @@
+pub mod WellFormed
+pub mod Faithful
