@@ -136,6 +136,6 @@ sections cs is ss bs =
     let at-bs : ℕ = at-ss + length ss in
     8 ∷ length cs ∷ at-is ∷ length is ∷ at-ss ∷ length ss ∷ at-bs ∷ length bs ∷ (cs ++ (is ++ (ss ++ bs)))
 
-abbrev pub encode : Function → List ℕ
+unfoldable pub encode : Function → List ℕ
 encode F =
     sections (counters-words (F .counters)) (items-words identifier-words (F .identifiers)) (items-words scope-words (F .scopes)) (block-words (F .body))

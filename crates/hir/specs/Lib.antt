@@ -3,3 +3,7 @@ pub mod Options
 pub mod Decode
 pub mod Numbers
 pub mod Encode
+pub mod Sizes
+pub mod Limits
+pub mod Held
+pub mod Tables

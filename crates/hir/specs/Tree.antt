@@ -1,6 +1,6 @@
 -- The abstract function: its tree, scopes, identifiers and counters as data. Assumes nothing.
 use mathlib.Core.Bool.{Bool}
-use mathlib.Core.List.{List}
+use mathlib.Core.List.{List, []}
 use Prim.Native.Nat.{ℕ}
 use Rattle.std.specs.declared.option.Option.{Option}
 use Rattle.hir.specs.declared.place.Place.{Place}
@@ -85,3 +85,10 @@ pub record Function : Type 0 where
   pub identifiers : List Identifier
   pub scopes : List ScopeInfo
   pub body : Block
+
+-- the function of empty tables
+abbrev pub no-counters : Counters
+no-counters = record { blocks = 0; types = 0; ranges = 0 }
+
+abbrev pub empty : Function
+empty = record { counters = no-counters; identifiers = []; scopes = []; body = nil }

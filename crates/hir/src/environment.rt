@@ -4,6 +4,7 @@ ghost use mathlib.Core.Path.{_≡_};
 ghost use mathlib.Core.List.{[]};
 ghost use Rattle.std.specs.Of.Vec.{vec-items, vec-len, vec-cap};
 ghost use Rattle.std.specs.Vec.{made};
+ghost use Rattle.hir.specs.Tree.{no-counters};
 use std::alloc::AllocError;
 use std::alloc::Global;
 
@@ -75,7 +76,7 @@ pub struct Environment {
 
 impl Environment {
     pub fn new(heap: Global) -> Result<Environment, AllocError>
-        ensures { λ r. ⌜ made r (λ e. (e .counters .blocks ≡ 0) × (e .counters .types ≡ 0) × (e .counters .ranges ≡ 0) × (vec-items (e .identifiers) ≡ []) × (vec-items (e .scopes) ≡ []) × (vec-items (e .declarations) ≡ [])) ⌝ }
+        ensures { λ r. ⌜ made r (λ e. (e .counters ≡ no-counters) × (vec-items (e .identifiers) ≡ []) × (vec-items (e .scopes) ≡ []) × (vec-items (e .declarations) ≡ [])) ⌝ }
     {
         Ok(Environment {
             counters: Counters { blocks: 0, types: 0, ranges: 0 },

@@ -4,6 +4,7 @@ pub mod environment;
 pub mod place;
 pub mod range;
 pub mod statement;
+pub mod tables;
 pub mod terminal;
 pub mod used;
 pub mod value;
