@@ -139,11 +139,11 @@ five n t r span =
 abbrev pub with-record : ℕ → ReactiveScopeEarlyReturn → ScopeInfo → ScopeInfo
 with-record x r s = record { early = Some r; declarations = s .declarations ++ (record { key = r .value; identifier = r .value; scope = x } ∷ []) }
 
--- the item x of the table changed
-unfoldable pub change : List ScopeInfo → ℕ → (ScopeInfo → ScopeInfo) → List ScopeInfo
+-- the item at x changed
+unfoldable pub change : {A : Type 0} → List A → ℕ → (A → A) → List A
 change [] x f = []
-change (s ∷ ss) zero f = f s ∷ ss
-change (s ∷ ss) (suc x) f = s ∷ change ss x f
+change (a ∷ xs) zero f = f a ∷ xs
+change (a ∷ xs) (suc x) f = a ∷ change xs x f
 
 -- an outermost scope, by the span of its first open return
 abbrev pub afterScope : Option ℕ → ℕ → Env → Env
