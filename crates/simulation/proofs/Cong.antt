@@ -1,5 +1,5 @@
 -- Every construct keeps the relation between two runs: what is built alike from related parts is related.
--- The first run has the records rec, the second rec′; both have at most f rounds for each loop.
+-- Values first, then statements.
 use mathlib.Core.Path.{_≡_, refl, sym, _∙_, ap}
 use mathlib.Core.Bool.{Bool, true, false}
 use mathlib.Core.List.{List, [], _∷_}
@@ -91,122 +91,145 @@ module _ {S : Type 0} (K : Setting S) (H : Meaning S) where
   inside-below (label b i) m k = mark-below m k
   inside-below (try b p c i) m k = mark-below m k
 
-  -- ---- statements
-  module _ (rec rec′ : ℕ → Option ℕ) (f : ℕ) where
-    pub record SRel (x x′ : Stmt) : Type 0 where
-      pub srel : (s s′ : State S) → Beside K false s s′ → Rel K false (runS H (always H) rec f x s) (runS H (always H) rec′ f x′ s′)
+-- ---- statements
+-- two runs: the first with the records `first`, the second with `second`, each with at most `bound` rounds for a loop
+pub record Runs (S : Type 0) : Type 1 where
+  pub setting : Setting S
+  pub host : Meaning S
+  pub first : ℕ → Option ℕ
+  pub second : ℕ → Option ℕ
+  pub bound : ℕ
 
-    -- of a terminal with the label m
-    pub record TRel (m : Option ReactiveLabel) (x x′ : Term) : Type 0 where
-      pub inside : mark-inside x m ≡ mark-inside x′ m
-      pub trel : (s s′ : State S) → Beside K false s s′ → Rel K false (runT H (always H) rec f x (mark m) s) (runT H (always H) rec′ f x′ (mark m) s′)
+module _ {S : Type 0} (R : Runs S) where
+  abbrev K : Setting S
+  K = R .setting
 
-    pub record BRel (b b′ : Block) : Type 0 where
-      pub brel : (s s′ : State S) → Beside K false s s′ → Rel K false (runB H (always H) rec f b s) (runB H (always H) rec′ f b′ s′)
+  abbrev H : Meaning S
+  H = R .host
 
-    pub record ORel (b b′ : OptBlock) : Type 0 where
-      pub orel : (s s′ : State S) → Beside K false s s′ → Rel K false (runO H (always H) rec f b s) (runO H (always H) rec′ f b′ s′)
+  abbrev rec : ℕ → Option ℕ
+  rec x = R .first x
 
-    pub record KRel (c c′ : Cases) : Type 0 where
-      pub defaults : default c ≡ default c′
-      pub selects : (v v′ n e : ℕ) → v ≡ v′ → (s s′ : State S) → Beside K false s s′ → Rel K true (select H (always H) v c n e s) (select H (always H) v′ c′ n e s′)
-      pub from : (n : ℕ) (s s′ : State S) → Beside K false s s′ → Rel K false (runFrom H (always H) rec f c n s) (runFrom H (always H) rec′ f c′ n s′)
+  abbrev rec′ : ℕ → Option ℕ
+  rec′ x = R .second x
 
-    pub nil-rel : BRel nil nil
-    nil-rel = record { brel = λ s s′ h. normal-rel K h }
+  abbrev f : ℕ
+  f = R .bound
 
-    pub cons-rel : {x x′ : Stmt} {b b′ : Block} → SRel x x′ → BRel b b′ → BRel (cons x b) (cons x′ b′)
-    cons-rel g k = record { brel = λ s s′ h. bind-rel K (g .srel s s′ h) (λ t t′ h. k .brel t t′ h) }
+  pub record SRel (x x′ : Stmt) : Type 0 where
+    pub srel : (s s′ : State S) → Beside K false s s′ → Rel K false (runS H (always H) rec f x s) (runS H (always H) rec′ f x′ s′)
 
-    pub no-rel : ORel noBlock noBlock
-    no-rel = record { orel = λ s s′ h. normal-rel K h }
+  -- of a terminal with the label m
+  pub record TRel (m : Option ReactiveLabel) (x x′ : Term) : Type 0 where
+    pub inside : mark-inside x m ≡ mark-inside x′ m
+    pub trel : (s s′ : State S) → Beside K false s s′ → Rel K false (runT H (always H) rec f x (mark m) s) (runT H (always H) rec′ f x′ (mark m) s′)
 
-    pub some-rel : {b b′ : Block} → BRel b b′ → ORel (someBlock b) (someBlock b′)
-    some-rel g = record { orel = λ s s′ h. g .brel s s′ h }
+  pub record BRel (b b′ : Block) : Type 0 where
+    pub brel : (s s′ : State S) → Beside K false s s′ → Rel K false (runB H (always H) rec f b s) (runB H (always H) rec′ f b′ s′)
 
-    pub instruction-rel : (i : Instr) → OkI (K .Z) i → SRel (instruction i) (instruction i)
-    instruction-rel i w = record { srel = λ s s′ h. valueI i w s s′ h }
+  pub record ORel (b b′ : OptBlock) : Type 0 where
+    pub orel : (s s′ : State S) → Beside K false s s′ → Rel K false (runO H (always H) rec f b s) (runO H (always H) rec′ f b′ s′)
 
-    pub scope-rel : (x : ℕ) {b b′ : Block} → rec x ≡ rec′ x → Below (K .Z .identifiers) (rec x) → BRel b b′ → SRel (scope x b) (scope x b′)
-    scope-rel x e k g = record { srel = λ s s′ h. tick-rel K H s s′ _ _ h (λ h. rw (← e) (bind-rel K (g .brel _ _ (enter-near K (rec x) h)) (λ t t′ h. leave-rel K (rec x) k h))) }
+  pub record KRel (c c′ : Cases) : Type 0 where
+    pub defaults : default c ≡ default c′
+    pub selects : (v v′ n e : ℕ) → v ≡ v′ → (s s′ : State S) → Beside K false s s′ → Rel K true (select H (always H) v c n e s) (select H (always H) v′ c′ n e s′)
+    pub from : (n : ℕ) (s s′ : State S) → Beside K false s s′ → Rel K false (runFrom H (always H) rec f c n s) (runFrom H (always H) rec′ f c′ n s′)
 
-    pub pruned-rel : (x : ℕ) {b b′ : Block} → BRel b b′ → SRel (pruned x b) (pruned x b′)
-    pruned-rel x g = record { srel = λ s s′ h. tick-rel K H s s′ _ _ h (λ h. g .brel _ _ h) }
+  pub nil-rel : BRel nil nil
+  nil-rel = record { brel = λ s s′ h. normal-rel K h }
 
-    pub terminal-rel : (m : Option ReactiveLabel) {x x′ : Term} → IfSome (LabelOk (K .Z)) m → TRel m x x′ → SRel (terminal x m) (terminal x′ m)
-    terminal-rel m {x} {x′} k g = record { srel = λ s s′ h. tick-rel K H s s′ _ _ h (λ h. rw (← g .inside) (map-rel K (label-catches K _ (inside-below x m k)) (g .trel _ _ h))) }
+  pub cons-rel : {x x′ : Stmt} {b b′ : Block} → SRel x x′ → BRel b b′ → BRel (cons x b) (cons x′ b′)
+  cons-rel g k = record { brel = λ s s′ h. bind-rel K (g .srel s s′ h) (λ t t′ h. k .brel t t′ h) }
 
-    pub break-rel : (m : Option ReactiveLabel) (l i : ℕ) (k : ReactiveTerminalTargetKind) → l < K .Z .blocks → TRel m (break l i k) (break l i k)
-    break-rel m l i Implicit w = record { inside = refl; trel = λ s s′ h. normal-rel K h }
-    break-rel m l i Unlabeled w = record { inside = refl; trel = λ s s′ h. same-rel K (broke None) tt h }
-    break-rel m l i Labeled w = record { inside = refl; trel = λ s s′ h. same-rel K (broke (Some l)) (omega (arith, K .room)) h }
+  pub no-rel : ORel noBlock noBlock
+  no-rel = record { orel = λ s s′ h. normal-rel K h }
 
-    pub continue-rel : (m : Option ReactiveLabel) (l i : ℕ) (k : ReactiveTerminalTargetKind) → l < K .Z .blocks → TRel m (continue l i k) (continue l i k)
-    continue-rel m l i Implicit w = record { inside = refl; trel = λ s s′ h. normal-rel K h }
-    continue-rel m l i Unlabeled w = record { inside = refl; trel = λ s s′ h. same-rel K (continued None) tt h }
-    continue-rel m l i Labeled w = record { inside = refl; trel = λ s s′ h. same-rel K (continued (Some l)) (omega (arith, K .room)) h }
+  pub some-rel : {b b′ : Block} → BRel b b′ → ORel (someBlock b) (someBlock b′)
+  some-rel g = record { orel = λ s s′ h. g .brel s s′ h }
 
-    pub return-rel : (m : Option ReactiveLabel) (p : Place) (i : ℕ) → PlaceOk (K .Z) p → TRel m (return p i) (return p i)
-    return-rel m p i k = record { inside = refl; trel = λ s s′ h. rw (h .same-store (p .identifier) k) (same-rel K (returned (at s′ p)) tt h) }
+  pub instruction-rel : (i : Instr) → OkI (K .Z) i → SRel (instruction i) (instruction i)
+  instruction-rel i w = record { srel = λ s s′ h. valueI K H i w s s′ h }
 
-    pub throw-rel : (m : Option ReactiveLabel) (p : Place) (i : ℕ) → PlaceOk (K .Z) p → TRel m (throw p i) (throw p i)
-    throw-rel m p i k = record { inside = refl; trel = λ s s′ h. rw (h .same-store (p .identifier) k) (same-rel K (threw (at s′ p)) tt h) }
+  pub scope-rel : (x : ℕ) {b b′ : Block} → rec x ≡ rec′ x → Below (K .Z .identifiers) (rec x) → BRel b b′ → SRel (scope x b) (scope x b′)
+  scope-rel x e k g = record { srel = λ s s′ h. tick-rel K H s s′ _ _ h (λ h. rw (← e) (bind-rel K (g .brel _ _ (enter-near K (rec x) h)) (λ t t′ h. leave-rel K (rec x) k h))) }
 
-    -- not by `rw` at a field of a state: it would rewrite the state too, which is the record of its fields
-    from-at : {c c′ : Cases} → KRel c c′ → (n n′ : ℕ) → n ≡ n′ → (s s′ : State S) → Beside K false s s′ → Rel K false (runFrom H (always H) rec f c n s) (runFrom H (always H) rec′ f c′ n′ s′)
-    from-at g n n′ e s s′ h = rw e (g .from n′ s s′ h)
+  pub pruned-rel : (x : ℕ) {b b′ : Block} → BRel b b′ → SRel (pruned x b) (pruned x b′)
+  pruned-rel x g = record { srel = λ s s′ h. tick-rel K H s s′ _ _ h (λ h. g .brel _ _ h) }
 
-    pub switch-rel : (m : Option ReactiveLabel) (p : Place) {c c′ : Cases} (i : ℕ) → IfSome (LabelOk (K .Z)) m → PlaceOk (K .Z) p → KRel c c′ → TRel m (switch p c i) (switch p c′ i)
-    switch-rel m p {c} {c′} i l k g = record {
-      inside = refl;
-      trel = λ s s′ h. rw (g .defaults) (bind-rel K (g .selects _ _ 0 (default c′) (h .same-store (p .identifier) k) s s′ h)
-          (λ t t′ h. map-rel K (loop-catches K (mark m) (mark-below m l)) (from-at g _ _ (h .same-given) t t′ (idle-near K h))));
-    }
+  pub terminal-rel : (m : Option ReactiveLabel) {x x′ : Term} → IfSome (LabelOk (K .Z)) m → TRel m x x′ → SRel (terminal x m) (terminal x′ m)
+  terminal-rel m {x} {x′} k g = record { srel = λ s s′ h. tick-rel K H s s′ _ _ h (λ h. rw (← g .inside) (map-rel K (label-catches K _ (inside-below K H x m k)) (g .trel _ _ h))) }
 
-    -- a loop's rounds
-    rounds : (m : Option ReactiveLabel) {round round′ : State S → Result S} → IfSome (LabelOk (K .Z)) m → ((s s′ : State S) → Beside K false s s′ → Rel K false (round s) (round′ s′)) → (s s′ : State S) → Beside K false s s′
-        → Rel K false (mapOut (endLoop (mark m)) (iter H (always H) round f s)) (mapOut (endLoop (mark m)) (iter H (always H) round′ f s′))
-    rounds m l g s s′ h = map-rel K (loop-catches K (mark m) (mark-below m l)) (iter-rel K H g f s s′ h)
+  pub break-rel : (m : Option ReactiveLabel) (l i : ℕ) (k : ReactiveTerminalTargetKind) → l < K .Z .blocks → TRel m (break l i k) (break l i k)
+  break-rel m l i Implicit w = record { inside = refl; trel = λ s s′ h. normal-rel K h }
+  break-rel m l i Unlabeled w = record { inside = refl; trel = λ s s′ h. same-rel K (broke None) tt h }
+  break-rel m l i Labeled w = record { inside = refl; trel = λ s s′ h. same-rel K (broke (Some l)) (omega (arith, K .room)) h }
 
-    pub doWhile-rel : (m : Option ReactiveLabel) {b b′ : Block} (v : Val) (i : ℕ) → IfSome (LabelOk (K .Z)) m → OkV (K .Z) v → BRel b b′ → TRel m (doWhile b v i) (doWhile b′ v i)
-    doWhile-rel m v i l w g = record { inside = refl; trel = rounds m l (λ s s′ h. bind-rel K (map-rel K (round-catches K (mark m)) (g .brel s s′ h)) (λ t t′ h. tested-rel v w (λ u u′ h. normal-rel K h) t t′ h)) }
+  pub continue-rel : (m : Option ReactiveLabel) (l i : ℕ) (k : ReactiveTerminalTargetKind) → l < K .Z .blocks → TRel m (continue l i k) (continue l i k)
+  continue-rel m l i Implicit w = record { inside = refl; trel = λ s s′ h. normal-rel K h }
+  continue-rel m l i Unlabeled w = record { inside = refl; trel = λ s s′ h. same-rel K (continued None) tt h }
+  continue-rel m l i Labeled w = record { inside = refl; trel = λ s s′ h. same-rel K (continued (Some l)) (omega (arith, K .room)) h }
 
-    pub while-rel : (m : Option ReactiveLabel) (v : Val) {b b′ : Block} (i : ℕ) → IfSome (LabelOk (K .Z)) m → OkV (K .Z) v → BRel b b′ → TRel m (while v b i) (while v b′ i)
-    while-rel m v i l w g = record { inside = refl; trel = rounds m l (tested-rel v w (λ u u′ h. map-rel K (round-catches K (mark m)) (g .brel u u′ h))) }
+  pub return-rel : (m : Option ReactiveLabel) (p : Place) (i : ℕ) → PlaceOk (K .Z) p → TRel m (return p i) (return p i)
+  return-rel m p i k = record { inside = refl; trel = λ s s′ h. rw (h .same-store (p .identifier) k) (same-rel K (returned (at s′ p)) tt h) }
 
-    pub for-rel : (m : Option ReactiveLabel) (a v : Val) (u : OptVal) {b b′ : Block} (i : ℕ) → IfSome (LabelOk (K .Z)) m → OkV (K .Z) a → OkV (K .Z) v → OkU (K .Z) u → BRel b b′ → TRel m (for a v u b i) (for a v u b′ i)
-    for-rel m a v u i l wa wv wu g = record { inside = refl; trel = λ s s′ h. bind-rel K (valueV a wa s s′ h) (λ t t′ h. rounds m l (tested-rel v wv (λ x x′ h. bind-rel K (map-rel K (round-catches K (mark m)) (g .brel x x′ h)) (λ y y′ h. updateU u wu y y′ h))) t t′ (idle-near K h)) }
+  pub throw-rel : (m : Option ReactiveLabel) (p : Place) (i : ℕ) → PlaceOk (K .Z) p → TRel m (throw p i) (throw p i)
+  throw-rel m p i k = record { inside = refl; trel = λ s s′ h. rw (h .same-store (p .identifier) k) (same-rel K (threw (at s′ p)) tt h) }
 
-    pub forOf-rel : (m : Option ReactiveLabel) (a v : Val) {b b′ : Block} (i n : ℕ) → IfSome (LabelOk (K .Z)) m → OkV (K .Z) a → OkV (K .Z) v → BRel b b′ → TRel m (forOf a v b i n) (forOf a v b′ i n)
-    forOf-rel m a v i n l wa wv g = record { inside = refl; trel = λ s s′ h. bind-rel K (valueV a wa s s′ h) (λ t t′ h. rounds m l (tested-rel v wv (λ x x′ h. map-rel K (round-catches K (mark m)) (g .brel x x′ h))) t t′ (idle-near K h)) }
+  -- not by `rw` at a field of a state: it would rewrite the state too, which is the record of its fields
+  from-at : {c c′ : Cases} → KRel c c′ → (n n′ : ℕ) → n ≡ n′ → (s s′ : State S) → Beside K false s s′ → Rel K false (runFrom H (always H) rec f c n s) (runFrom H (always H) rec′ f c′ n′ s′)
+  from-at g n n′ e s s′ h = rw e (g .from n′ s s′ h)
 
-    pub forIn-rel : (m : Option ReactiveLabel) (v : Val) {b b′ : Block} (i n : ℕ) → IfSome (LabelOk (K .Z)) m → OkV (K .Z) v → BRel b b′ → TRel m (forIn v b i n) (forIn v b′ i n)
-    forIn-rel m v i n l w g = record { inside = refl; trel = rounds m l (tested-rel v w (λ u u′ h. map-rel K (round-catches K (mark m)) (g .brel u u′ h))) }
+  pub switch-rel : (m : Option ReactiveLabel) (p : Place) {c c′ : Cases} (i : ℕ) → IfSome (LabelOk (K .Z)) m → PlaceOk (K .Z) p → KRel c c′ → TRel m (switch p c i) (switch p c′ i)
+  switch-rel m p {c} {c′} i l k g = record {
+    inside = refl;
+    trel = λ s s′ h. rw (g .defaults) (bind-rel K (g .selects _ _ 0 (default c′) (h .same-store (p .identifier) k) s s′ h)
+        (λ t t′ h. map-rel K (loop-catches K (mark m) (mark-below K H m l)) (from-at g _ _ (h .same-given) t t′ (idle-near K h))));
+  }
 
-    pub if-rel : (m : Option ReactiveLabel) (p : Place) {b b′ : Block} {c c′ : OptBlock} (i : ℕ) → PlaceOk (K .Z) p → BRel b b′ → ORel c c′ → TRel m (if p b c i) (if p b′ c′ i)
-    if-rel m p i k gb gc = record { inside = refl; trel = λ s s′ h. test-rel K H 0 _ _ (gave-near K _ _ (h .same-store (p .identifier) k) h) (λ u u′ h. gb .brel u u′ (idle-near K h)) (λ u u′ h. gc .orel u u′ (idle-near K h)) }
+  -- a loop's rounds
+  rounds : (m : Option ReactiveLabel) {round round′ : State S → Result S} → IfSome (LabelOk (K .Z)) m → ((s s′ : State S) → Beside K false s s′ → Rel K false (round s) (round′ s′)) → (s s′ : State S) → Beside K false s s′
+      → Rel K false (mapOut (endLoop (mark m)) (iter H (always H) round f s)) (mapOut (endLoop (mark m)) (iter H (always H) round′ f s′))
+  rounds m l g s s′ h = map-rel K (loop-catches K (mark m) (mark-below K H m l)) (iter-rel K H g f s s′ h)
 
-    pub label-rel : (m : Option ReactiveLabel) {b b′ : Block} (i : ℕ) → BRel b b′ → TRel m (label b i) (label b′ i)
-    label-rel m i g = record { inside = refl; trel = λ s s′ h. g .brel s s′ h }
+  pub doWhile-rel : (m : Option ReactiveLabel) {b b′ : Block} (v : Val) (i : ℕ) → IfSome (LabelOk (K .Z)) m → OkV (K .Z) v → BRel b b′ → TRel m (doWhile b v i) (doWhile b′ v i)
+  doWhile-rel m v i l w g = record { inside = refl; trel = rounds m l (λ s s′ h. bind-rel K (map-rel K (round-catches K (mark m)) (g .brel s s′ h)) (λ t t′ h. tested-rel K H v w (λ u u′ h. normal-rel K h) t t′ h)) }
 
-    pub try-rel : (m : Option ReactiveLabel) {b b′ : Block} (p : Option Place) {c c′ : Block} (i : ℕ) → IfSome (PlaceOk (K .Z)) p → BRel b b′ → BRel c c′ → TRel m (try b p c i) (try b′ p c′ i)
-    try-rel m p i k g gc = record { inside = refl; trel = λ s s′ h. handle-rel K (g .brel s s′ h) (λ v t t′ h. gc .brel _ _ (assign-near K p k (gave-near K v v refl h))) }
+  pub while-rel : (m : Option ReactiveLabel) (v : Val) {b b′ : Block} (i : ℕ) → IfSome (LabelOk (K .Z)) m → OkV (K .Z) v → BRel b b′ → TRel m (while v b i) (while v b′ i)
+  while-rel m v i l w g = record { inside = refl; trel = rounds m l (tested-rel K H v w (λ u u′ h. map-rel K (round-catches K (mark m)) (g .brel u u′ h))) }
 
-    pub knil-rel : KRel knil knil
-    knil-rel = record { defaults = refl; selects = λ v v′ n e q s s′ h. normal-rel K (gave-near K e e refl h); from = λ n s s′ h. normal-rel K h }
+  pub for-rel : (m : Option ReactiveLabel) (a v : Val) (u : OptVal) {b b′ : Block} (i : ℕ) → IfSome (LabelOk (K .Z)) m → OkV (K .Z) a → OkV (K .Z) v → OkU (K .Z) u → BRel b b′ → TRel m (for a v u b i) (for a v u b′ i)
+  for-rel m a v u i l wa wv wu g = record { inside = refl; trel = λ s s′ h. bind-rel K (valueV K H a wa s s′ h) (λ t t′ h. rounds m l (tested-rel K H v wv (λ x x′ h. bind-rel K (map-rel K (round-catches K (mark m)) (g .brel x x′ h)) (λ y y′ h. updateU K H u wu y y′ h))) t t′ (idle-near K h)) }
 
-    pub kcons-rel : (t : Option Place) {b b′ : OptBlock} {c c′ : Cases} → IfSome (PlaceOk (K .Z)) t → ORel b b′ → KRel c c′ → KRel (kcons t b c) (kcons t b′ c′)
-    kcons-rel t {b} {b′} {c} {c′} k gb g = record { defaults = def t; selects = sel t k; from = fr }
-      where
-        def : (t : Option Place) → default (kcons t b c) ≡ default (kcons t b′ c′)
-        def None = refl
-        def (Some p) = ap suc (g .defaults)
+  pub forOf-rel : (m : Option ReactiveLabel) (a v : Val) {b b′ : Block} (i n : ℕ) → IfSome (LabelOk (K .Z)) m → OkV (K .Z) a → OkV (K .Z) v → BRel b b′ → TRel m (forOf a v b i n) (forOf a v b′ i n)
+  forOf-rel m a v i n l wa wv g = record { inside = refl; trel = λ s s′ h. bind-rel K (valueV K H a wa s s′ h) (λ t t′ h. rounds m l (tested-rel K H v wv (λ x x′ h. map-rel K (round-catches K (mark m)) (g .brel x x′ h))) t t′ (idle-near K h)) }
 
-        sel : (t : Option Place) → IfSome (PlaceOk (K .Z)) t → (v v′ n e : ℕ) → v ≡ v′ → (s s′ : State S) → Beside K false s s′ → Rel K true (select H (always H) v (kcons t b c) n e s) (select H (always H) v′ (kcons t b′ c′) n e s′)
-        sel None k v v′ n e q s s′ h = g .selects v v′ (suc n) e q s s′ h
-        sel (Some p) k v v′ n e q s s′ h = ask-rel K H 43 0 0 _ _ s s′ _ _ (let r = h .same-store (p .identifier) k in cc) h
-            (λ t t′ h. branch-rel K _ _ _ _ _ _ t t′ (ap (λ x. eqb x 0) (h .same-given)) (g .selects v v′ (suc n) e q t t′ (idle-near K h)) (normal-rel K (gave-near K n n refl h)))
+  pub forIn-rel : (m : Option ReactiveLabel) (v : Val) {b b′ : Block} (i n : ℕ) → IfSome (LabelOk (K .Z)) m → OkV (K .Z) v → BRel b b′ → TRel m (forIn v b i n) (forIn v b′ i n)
+  forIn-rel m v i n l w g = record { inside = refl; trel = rounds m l (tested-rel K H v w (λ u u′ h. map-rel K (round-catches K (mark m)) (g .brel u u′ h))) }
 
-        fr : (n : ℕ) (s s′ : State S) → Beside K false s s′ → Rel K false (runFrom H (always H) rec f (kcons t b c) n s) (runFrom H (always H) rec′ f (kcons t b′ c′) n s′)
-        fr zero s s′ h = bind-rel K (gb .orel s s′ h) (λ u u′ h. g .from zero u u′ h)
-        fr (suc n) s s′ h = g .from n s s′ h
+  pub if-rel : (m : Option ReactiveLabel) (p : Place) {b b′ : Block} {c c′ : OptBlock} (i : ℕ) → PlaceOk (K .Z) p → BRel b b′ → ORel c c′ → TRel m (if p b c i) (if p b′ c′ i)
+  if-rel m p i k gb gc = record { inside = refl; trel = λ s s′ h. test-rel K H 0 _ _ (gave-near K _ _ (h .same-store (p .identifier) k) h) (λ u u′ h. gb .brel u u′ (idle-near K h)) (λ u u′ h. gc .orel u u′ (idle-near K h)) }
+
+  pub label-rel : (m : Option ReactiveLabel) {b b′ : Block} (i : ℕ) → BRel b b′ → TRel m (label b i) (label b′ i)
+  label-rel m i g = record { inside = refl; trel = λ s s′ h. g .brel s s′ h }
+
+  pub try-rel : (m : Option ReactiveLabel) {b b′ : Block} (p : Option Place) {c c′ : Block} (i : ℕ) → IfSome (PlaceOk (K .Z)) p → BRel b b′ → BRel c c′ → TRel m (try b p c i) (try b′ p c′ i)
+  try-rel m p i k g gc = record { inside = refl; trel = λ s s′ h. handle-rel K (g .brel s s′ h) (λ v t t′ h. gc .brel _ _ (assign-near K p k (gave-near K v v refl h))) }
+
+  pub knil-rel : KRel knil knil
+  knil-rel = record { defaults = refl; selects = λ v v′ n e q s s′ h. normal-rel K (gave-near K e e refl h); from = λ n s s′ h. normal-rel K h }
+
+  pub kcons-rel : (t : Option Place) {b b′ : OptBlock} {c c′ : Cases} → IfSome (PlaceOk (K .Z)) t → ORel b b′ → KRel c c′ → KRel (kcons t b c) (kcons t b′ c′)
+  kcons-rel t {b} {b′} {c} {c′} k gb g = record { defaults = def t; selects = sel t k; from = fr }
+    where
+      def : (t : Option Place) → default (kcons t b c) ≡ default (kcons t b′ c′)
+      def None = refl
+      def (Some p) = ap suc (g .defaults)
+
+      sel : (t : Option Place) → IfSome (PlaceOk (K .Z)) t → (v v′ n e : ℕ) → v ≡ v′ → (s s′ : State S) → Beside K false s s′ → Rel K true (select H (always H) v (kcons t b c) n e s) (select H (always H) v′ (kcons t b′ c′) n e s′)
+      sel None k v v′ n e q s s′ h = g .selects v v′ (suc n) e q s s′ h
+      sel (Some p) k v v′ n e q s s′ h = ask-rel K H 43 0 0 _ _ s s′ _ _ (let r = h .same-store (p .identifier) k in cc) h
+          (λ t t′ h. branch-rel K _ _ _ _ _ _ t t′ (ap (λ x. eqb x 0) (h .same-given)) (g .selects v v′ (suc n) e q t t′ (idle-near K h)) (normal-rel K (gave-near K n n refl h)))
+
+      fr : (n : ℕ) (s s′ : State S) → Beside K false s s′ → Rel K false (runFrom H (always H) rec f (kcons t b c) n s) (runFrom H (always H) rec′ f (kcons t b′ c′) n s′)
+      fr zero s s′ h = bind-rel K (gb .orel s s′ h) (λ u u′ h. g .from zero u u′ h)
+      fr (suc n) s s′ h = g .from n s s′ h
