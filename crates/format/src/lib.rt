@@ -1,1 +1,2 @@
-// The function file as a definition: its words, what they say, and which are refused.
+// The function file as a definition: its words, what they say, and why a file is refused.
+pub mod fault;

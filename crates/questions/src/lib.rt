@@ -1,0 +1,1 @@
+// Whether the function that tables hold has its numbers in range, its operations in shape, its targets and its scopes.
