@@ -1,3 +1,6 @@
 pub mod Stores
+pub mod Lists
 pub mod Rel
 pub mod Cong
+pub mod Identity
+pub mod Targets
