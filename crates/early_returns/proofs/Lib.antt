@@ -1,2 +1,4 @@
 pub mod Environment
 pub mod Frame
+pub mod PassIsDescription
+pub mod Again

@@ -1,3 +1,4 @@
 pub mod Statements
 pub mod Lowering
 pub mod Pass
+pub mod Promises
