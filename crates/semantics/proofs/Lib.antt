@@ -1,2 +1,7 @@
 pub mod Alike
 pub mod Link
+pub mod Rounds
+pub mod Records
+pub mod Budgets
+pub mod Wide
+pub mod Computed

@@ -1,4 +1,6 @@
 // What a run of a function answers. Its definition stands in specs/.
+pub mod examples;
+pub mod laws;
 
 #[derive(Clone, Copy)]
 pub enum Outcome {
