@@ -4,3 +4,5 @@ pub mod Rel
 pub mod Cong
 pub mod Identity
 pub mod Targets
+pub mod Simulate
+pub mod Compose
