@@ -1,2 +1,4 @@
 pub mod Limits
 pub mod Empty
+pub mod Bound
+pub mod Parts
