@@ -1,2 +1,3 @@
 pub mod Passes
 pub mod WellFormed
+pub mod Faithful
