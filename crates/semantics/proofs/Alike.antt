@@ -4,7 +4,6 @@ use mathlib.Core.Path.{_≡_, refl}
 use mathlib.Core.Bool.{Bool, true, false}
 use mathlib.Core.List.{List, [], _∷_}
 use Prim.Native.Nat.{ℕ, zero, suc}
-use lib.Dec.{eqb}
 use Rattle.std.specs.declared.option.Option.{Option}
 use Rattle.std.specs.declared.option.Option.the-variants.{Some, None}
 use Rattle.hir.specs.declared.place.Place.{Place}
@@ -13,9 +12,9 @@ use Rattle.host.specs.declared.Reply.{Reply}
 use Rattle.host.specs.declared.Reply.the-variants.{Value, Thrown}
 use Rattle.host.specs.Asked.{Asked, asked}
 use Rattle.hir.specs.Tree.{Op, Val, operation, logical, conditional, sequence, optional, OptVal, noVal, someVal, Instr, instr, Instrs, inil, icons, Stmt, instruction, scope, pruned, terminal, Term, break, continue, return, throw, switch, doWhile, while, for, forOf, forIn, if, label, try, Cases, knil, kcons, OptBlock, noBlock, someBlock, Block, nil, cons}
-use Rattle.semantics.specs.Machine.{Meaning, State, Out, normal, broke, continued, returned, threw, Result, done, spent, stepped, recorded, gave, moved, wrote, at, all-at, last-at, store-all, assign, bind, handle, mapOut, enter, leave, branch, onReply, ask, test, ask-each, tick, iter, look}
+use Rattle.semantics.specs.Machine.{Meaning, State, Out, normal, broke, returned, threw, Result, done, stepped, recorded, gave, moved, wrote, at, all-at, store-all, assign, bind, handle, mapOut, enter, leave, branch, onReply, ask, test, ask-each, tick, iter}
 use Rattle.semantics.specs.Targets.{mark, mark-inside}
-use Rattle.semantics.specs.Exec.{Class, loads, declares, stores, asks-each, asks, class, operator-number, endLoop, endRound, endLabel, default, evalOp, evalV, evalI, evalIs, evalO, select, tested, runS, runT, runFrom, runO, runB}
+use Rattle.semantics.specs.Exec.{Class, loads, declares, stores, asks-each, asks, class, endLoop, endRound, endLabel, default, evalOp, evalV, evalI, evalIs, evalO, select, tested, runS, runT, runFrom, runO, runB}
 
 -- a change of how a part ended that leaves a return a return
 abbrev pub KeepsReturns : (Out → Out) → Type 0

@@ -1,16 +1,16 @@
 -- The laws of budgets and rounds, in the words of the results.
 -- Each turns "not spent" into an ending and cites what is proved of endings.
 use mathlib.Core.Path.{_≡_, refl, sym, _∙_, ap, subst}
-use mathlib.Core.Bool.{Bool, true, false}
+use mathlib.Core.Bool.{true, false}
 use mathlib.Core.List.{List}
-use Prim.Native.Nat.{ℕ, zero, suc, _≤_, _<_}
+use Prim.Native.Nat.{ℕ, suc, _≤_, _<_}
 use native.Mathlib.Omega.{arith}
 use mathlib.Core.Logic.{_⊎_, inl, inr}
 use borrow.Author.Tests.{clash}
 use Rattle.hir.specs.Tree.{Function}
 use Rattle.semantics.specs.Machine.{Meaning, State, Out, Result, done, spent}
-use Rattle.semantics.specs.Exec.{exec, unbounded, last}
-use Rattle.semantics.specs.Laws.{is-spent, steps-of, SpentAt, AgreesAt, LargerBudgets, SpentExactly, MoreRounds, RoundsAgree, RecordsOnce}
+use Rattle.semantics.specs.Exec.{exec}
+use Rattle.semantics.specs.Laws.{is-spent, steps-of, LargerBudgets, OneResult, SpentExactly, MoreRounds, RoundsAgree, RecordsOnce}
 use Rattle.semantics.proofs.Link.{either-way, used-up, unbounded-exec, exec-unbounded, exec-larger}
 use Rattle.semantics.proofs.Rounds.{more-rounds}
 use Rattle.semantics.proofs.Records.{returns-once}
@@ -25,6 +25,13 @@ on-end {r = r} {q} g e = go r refl e
 
 pub larger-budgets : {S : Type 0} → LargerBudgets S
 larger-budgets H F h σ B C i e = on-end (λ o t. exec-larger H F h σ B C o t i) e
+
+pub one-result : {S : Type 0} → OneResult S
+one-result H F h σ B C e i = go (either-way B C)
+  where
+    go : ((B ≤ C) ⊎ (C < B)) → exec H F B h σ ≡ exec H F C h σ
+    go (inl k) = sym (larger-budgets H F h σ B C k e)
+    go (inr k) = larger-budgets H F h σ C B (omega arith) i
 
 module _ {S : Type 0} (H : Meaning S) (F : Function) (h : S) (σ : List ℕ) where
   ended-spent : (B C : ℕ) (o : Out) (t : State S) → exec H F B h σ ≡ done o t → is-spent (exec H F C h σ) ≡ true → C < t .steps

@@ -1,7 +1,6 @@
 -- The worked examples come out as listed.
 -- With every definition of the run open, each row computes to its result.
-use mathlib.Core.Path.{_≡_, refl}
-use Prim.Native.Nat.{ℕ}
+use mathlib.Core.Path.{refl}
 use Rattle.host.specs.Asked.{fixed}
 use Rattle.semantics.specs.Machine.{look, put, branch, bind, handle, mapOut, enter, leave, onReply, ask, tick, iter}
 use Rattle.semantics.specs.Exec.{class, records-of, exec}

@@ -4,4 +4,5 @@ pub mod Rounds
 pub mod Records
 pub mod Budgets
 pub mod Wide
+pub mod Jumps
 pub mod Computed

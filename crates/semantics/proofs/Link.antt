@@ -8,10 +8,10 @@ use Prim.Native.Nat.{ℕ, zero, suc, _+_, _≤_, _<_}
 use native.Mathlib.Nat.{le-refl}
 use native.Mathlib.Omega.{arith}
 use borrow.Author.Tests.{ltb-true, ltb-false}
-use Rattle.hir.specs.Tree.{Block, Function}
+use Rattle.hir.specs.Tree.{Function}
 use Rattle.semantics.specs.Machine.{Meaning, State, Out, normal, broke, continued, returned, threw, Result, done, spent, stepped, recorded, bind, handle, mapOut, branch, tick, iter}
 use Rattle.semantics.specs.Targets.{nowhere, aimB}
-use Rattle.semantics.specs.Exec.{runB, records-of, begin, within, always, exec, unbounded, last}
+use Rattle.semantics.specs.Exec.{records-of, begin, within, always, exec, unbounded, last}
 use Rattle.semantics.proofs.Alike.{KeepsReturns, Kept, alikeB}
 
 pub either-way : (a b : ℕ) → (a ≤ b) ⊎ (b < a)

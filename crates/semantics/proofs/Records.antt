@@ -3,10 +3,10 @@
 use mathlib.Core.Path.{_≡_, refl}
 use mathlib.Core.Bool.{Bool, true, false}
 use mathlib.Core.List.{List}
-use Prim.Native.Nat.{ℕ, zero, suc, _≤_}
+use Prim.Native.Nat.{ℕ, zero, suc}
 use native.Mathlib.Omega.{arith}
 use Rattle.hir.specs.Tree.{Function}
-use Rattle.semantics.specs.Machine.{Meaning, State, Out, normal, broke, continued, returned, threw, Result, done, spent, stepped, recorded, bind, handle, mapOut, branch, tick, iter}
+use Rattle.semantics.specs.Machine.{Meaning, State, Out, normal, broke, continued, returned, threw, Result, done, spent, stepped, bind, handle, mapOut, branch, tick, iter}
 use Rattle.semantics.specs.Targets.{nowhere, aimB}
 use Rattle.semantics.specs.Exec.{records-of, begin, within, exec}
 use Rattle.semantics.specs.Laws.{OnceF}

@@ -1,6 +1,6 @@
 -- A run from a longer store is the run from the shorter one with the rest behind it.
 -- States are compared by `widen`; what is read and written lies below N, and the store keeps its length.
-use mathlib.Core.Path.{_≡_, refl, ap, _∙_}
+use mathlib.Core.Path.{_≡_, refl, _∙_}
 use mathlib.Core.Bool.{Bool, true, false}
 use mathlib.Core.List.{List, [], _∷_, _++_}
 use Prim.Native.Nat.{ℕ, zero, suc, _≤_, _<_}
@@ -16,11 +16,11 @@ use Rattle.hir.specs.declared.terminal.ReactiveTerminalTargetKind.the-variants.
 use Rattle.host.specs.declared.Reply.{Reply}
 use Rattle.host.specs.declared.Reply.the-variants.{Value, Thrown}
 use Rattle.host.specs.Asked.{Asked, asked}
-use Rattle.hir.specs.Tree.{Op, Val, operation, logical, conditional, sequence, optional, OptVal, noVal, someVal, Instr, instr, Instrs, inil, icons, Stmt, instruction, scope, pruned, terminal, Term, break, continue, return, throw, switch, doWhile, while, for, forOf, forIn, if, label, try, Cases, knil, kcons, OptBlock, noBlock, someBlock, Block, nil, cons, ScopeInfo, Function}
+use Rattle.hir.specs.Tree.{Op, Val, operation, logical, conditional, sequence, optional, OptVal, noVal, someVal, Instr, instr, Instrs, inil, icons, Stmt, instruction, scope, pruned, terminal, Term, break, continue, return, throw, switch, doWhile, while, for, forOf, forIn, if, label, try, Cases, knil, kcons, OptBlock, noBlock, someBlock, Block, nil, cons, ScopeInfo}
 use Rattle.semantics.specs.Machine.{Meaning, State, Out, normal, broke, continued, returned, threw, Result, done, spent, stepped, recorded, gave, moved, wrote, at, all-at, last-at, store-all, assign, bind, handle, mapOut, enter, leave, branch, onReply, ask, test, ask-each, tick, iter, look, put}
 use Rattle.semantics.specs.Targets.{mark, mark-inside, Around, nowhere, labelled, inSwitch, inLoop, aimB, aimO, aimK, aimT, aimS}
-use Rattle.semantics.specs.Exec.{Class, loads, declares, stores, asks-each, asks, class, operator-number, endLoop, endRound, endLabel, default, records-of, evalOp, evalV, evalI, evalIs, evalO, select, tested, runS, runT, runFrom, runO, runB, begin, within, exec, last}
-use Rattle.semantics.specs.Below.{BelowPs, BelowP, BelowN, BelowV, BelowI, BelowIs, BelowU, BelowS, BelowT, BelowK, BelowO, BelowB, BelowR, Below, widen, widened, Local, OnlyTable}
+use Rattle.semantics.specs.Exec.{Class, loads, declares, stores, asks-each, asks, class, records-of, evalOp, evalV, evalI, evalIs, evalO, select, tested, runS, runT, runFrom, runO, runB, begin, within, exec, last}
+use Rattle.semantics.specs.Below.{BelowPs, BelowP, BelowN, BelowV, BelowI, BelowIs, BelowU, BelowS, BelowT, BelowK, BelowO, BelowB, BelowR, widen, widened, OnlyTable}
 
 look-left : (σ τ : List ℕ) (i : ℕ) → i < length σ → look (σ ++ τ) i ≡ look σ i
 unfolding look

@@ -6,7 +6,7 @@ use lib.ListN.{length}
 use Rattle.std.specs.declared.option.Option.{Option}
 use Rattle.std.specs.declared.option.Option.the-variants.{Some, None}
 use Rattle.hir.specs.declared.place.Place.{Place}
-use Rattle.hir.specs.Tree.{Op, Val, operation, logical, conditional, sequence, optional, OptVal, noVal, someVal, Instr, instr, Instrs, inil, icons, Stmt, instruction, scope, pruned, terminal, Term, break, continue, return, throw, switch, doWhile, while, for, forOf, forIn, if, label, try, Cases, knil, kcons, OptBlock, noBlock, someBlock, Block, nil, cons, ScopeInfo, Function}
+use Rattle.hir.specs.Tree.{Val, operation, logical, conditional, sequence, optional, OptVal, noVal, someVal, Instr, instr, Instrs, inil, icons, Stmt, instruction, scope, pruned, terminal, Term, break, continue, return, throw, switch, doWhile, while, for, forOf, forIn, if, label, try, Cases, knil, kcons, OptBlock, noBlock, someBlock, Block, nil, cons, ScopeInfo, Function}
 use Rattle.semantics.specs.Machine.{Meaning, State, Result, done, spent}
 use Rattle.semantics.specs.Exec.{recorded-place, exec, last}
 use Rattle.semantics.specs.Laws.{EachRun}

@@ -10,7 +10,7 @@ use Rattle.hir.specs.declared.place.Effect.the-variants.{Read}
 use Rattle.hir.specs.declared.value.LogicalOperator.the-variants.{Or}
 use Rattle.hir.specs.declared.terminal.ReactiveTerminalTargetKind.the-variants.{Implicit, Labeled, Unlabeled}
 use Rattle.hir.specs.declared.environment.ReactiveScopeEarlyReturn.{ReactiveScopeEarlyReturn}
-use Rattle.hir.specs.Tree.{Val, operation, logical, sequence, OptVal, someVal, Instr, instr, Instrs, inil, icons, Stmt, instruction, scope, pruned, terminal, Term, break, continue, return, throw, switch, doWhile, while, for, label, try, Cases, knil, kcons, OptBlock, someBlock, Block, nil, cons, Function}
+use Rattle.hir.specs.Tree.{Val, operation, logical, sequence, someVal, Instr, instr, inil, icons, Stmt, instruction, scope, pruned, terminal, Term, break, continue, return, throw, switch, doWhile, while, for, label, try, Cases, knil, kcons, someBlock, Block, nil, cons, Function}
 use Rattle.host.specs.Hosts.{Tape, tape, list-answer, list-next, list-keeps, number-answer, number-next, number-keeps}
 use Rattle.semantics.specs.Machine.{Meaning, Result}
 use Rattle.semantics.specs.Exec.{exec, ran, last}

@@ -4,7 +4,7 @@ use mathlib.Core.List.{List}
 use mathlib.Core.Path.{_≡_}
 use Prim.Native.Nat.{ℕ, suc, _≤_}
 use Rattle.hir.specs.Tree.{Function}
-use Rattle.semantics.specs.Machine.{Meaning, Out, normal, broke, continued, returned, threw, Result, done, spent}
+use Rattle.semantics.specs.Machine.{Meaning, normal, broke, continued, returned, threw, Result, done, spent}
 use Rattle.semantics.specs.Exec.{exec, unbounded, last}
 
 abbrev pub is-spent : {S : Type 0} → Result S → Bool
@@ -21,6 +21,10 @@ EachRun S P = (H : Meaning S) (F : Function) (h : S) (σ : List ℕ) → P H F h
 -- a run that is not spent has the same result under every larger budget
 abbrev pub LargerBudgets : Type 0 → Type 0
 LargerBudgets S = EachRun S (λ H F h σ. (B C : ℕ) → B ≤ C → is-spent (exec H F B h σ) ≡ false → exec H F C h σ ≡ exec H F B h σ)
+
+-- so all budgets with which it is not spent give one result
+abbrev pub OneResult : Type 0 → Type 0
+OneResult S = EachRun S (λ H F h σ. (B C : ℕ) → is-spent (exec H F B h σ) ≡ false → is-spent (exec H F C h σ) ≡ false → exec H F B h σ ≡ exec H F C h σ)
 
 -- a run is spent exactly when, given one step more, it takes it; then its steps are its budget, and they are never more
 pub record SpentAt {S : Type 0} (H : Meaning S) (F : Function) (h : S) (σ : List ℕ) (B : ℕ) : Type 0 where
@@ -55,3 +59,15 @@ OnceF (spent t) = t .records ≡ 0
 
 abbrev pub RecordsOnce : Type 0 → Type 0
 RecordsOnce S = EachRun S (λ H F h σ. (B : ℕ) → OnceF (exec H F B h σ))
+
+-- a run that is not spent ends normally, returns or throws: every jump is taken inside the function
+abbrev pub EndF : {S : Type 0} → Result S → Type 0
+EndF (done normal t) = Unit {0}
+EndF (done (broke l) t) = ⊥
+EndF (done (continued l) t) = ⊥
+EndF (done (returned v) t) = Unit {0}
+EndF (done (threw v) t) = Unit {0}
+EndF (spent t) = Unit {0}
+
+abbrev pub NoJumpLeaves : Type 0 → Type 0
+NoJumpLeaves S = EachRun S (λ H F h σ. (B : ℕ) → EndF (exec H F B h σ))

@@ -1,10 +1,17 @@
 // What holds of every run. Each function here answers 0: its contract is the law, for hosts with states of any type S.
-ghost use Rattle.semantics.specs.Laws.{LargerBudgets, SpentExactly, MoreRounds, RoundsAgree, RecordsOnce};
+ghost use Rattle.semantics.specs.Laws.{LargerBudgets, OneResult, SpentExactly, MoreRounds, RoundsAgree, RecordsOnce, NoJumpLeaves};
 ghost use Rattle.semantics.specs.Below.{OnlyTable};
 
 // A run that is not spent has the same result under every larger budget.
 pub fn larger_budgets_change_nothing<S>() -> u8
     ensures { λ _. ⌜ LargerBudgets S ⌝ }
+{
+    0
+}
+
+// All budgets with which a run is not spent give one result.
+pub fn every_sufficient_budget_gives_one_result<S>() -> u8
+    ensures { λ _. ⌜ OneResult S ⌝ }
 {
     0
 }
@@ -40,6 +47,13 @@ pub fn runs_stay_within_the_table<S>() -> u8
 // A record returns at most once in a run, and only where the run returns.
 pub fn a_record_returns_at_most_once<S>() -> u8
     ensures { λ _. ⌜ RecordsOnce S ⌝ }
+{
+    0
+}
+
+// A run that is not spent ends normally, returns or throws: no jump leaves the function.
+pub fn no_jump_leaves_a_function<S>() -> u8
+    ensures { λ _. ⌜ NoJumpLeaves S ⌝ }
 {
     0
 }
