@@ -1,0 +1,5 @@
+pub mod Took
+pub mod Begun
+pub mod TookValues
+pub mod TookStatements
+pub mod TookTables
