@@ -47,7 +47,7 @@ load i = op 0 0 [] (i ∷ [])
 
 -- a BinaryExpression, which asks the host with this payload on what the places hold
 abbrev pub asking : ℕ → List ℕ → Val
-asking p is = op 13 p [] is
+asking p is = op 9 p [] is
 
 -- i := v
 abbrev pub gets : ℕ → Val → Instr
