@@ -5,3 +5,4 @@ pub mod Again
 pub mod Growth
 pub mod Opening
 pub mod Inside
+pub mod Sim
