@@ -2,6 +2,7 @@ pub mod Environment
 pub mod Frame
 pub mod PassIsDescription
 pub mod Again
+pub mod Examples
 pub mod Growth
 pub mod Opening
 pub mod Inside

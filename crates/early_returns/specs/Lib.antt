@@ -2,3 +2,4 @@ pub mod Statements
 pub mod Lowering
 pub mod Pass
 pub mod Promises
+pub mod Examples

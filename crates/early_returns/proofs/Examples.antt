@@ -1,0 +1,35 @@
+-- The examples hold by computing; the runs ask the four fixed questions only.
+use mathlib.Core.Path.{_≡_, refl}
+use mathlib.Core.List.{List, [], _∷_}
+use Prim.Native.Nat.{ℕ}
+use Rattle.host.specs.Asked.{Asked, asked, fixed}
+use Rattle.semantics.specs.Machine.{Meaning, look, put, branch, bind, handle, mapOut, enter, leave, onReply, ask, tick, iter}
+use Rattle.semantics.specs.Exec.{class, records-of, exec, ran}
+use Rattle.early_returns.specs.Lowering.{change, lowered}
+use Rattle.early_returns.specs.Pass.{propagate-early-returns}
+use Rattle.early_returns.specs.Examples.{Lowers, Runs, Examples}
+
+pass-lowers : Lowers propagate-early-returns
+unfolding propagate-early-returns records-of change
+pass-lowers = record { in-a-scope = refl; in-no-scope = refl; in-pruned-scopes = refl; in-a-pruned-scope-in-a-scope = refl; in-two-scopes = refl; in-a-scope-in-a-scope = refl; in-a-recorded-scope = refl; in-a-recorded-scope-in-a-scope = refl }
+
+description-lowers : Lowers lowered
+unfolding lowered records-of change
+description-lowers = record { in-a-scope = refl; in-no-scope = refl; in-pruned-scopes = refl; in-a-pruned-scope-in-a-scope = refl; in-two-scopes = refl; in-a-scope-in-a-scope = refl; in-a-recorded-scope = refl; in-a-recorded-scope-in-a-scope = refl }
+
+abbrev question : ℕ → ℕ → List ℕ → Asked
+question kind payload values = asked (record { kind = kind; payload = payload; position = 0 }) values
+
+runs-hold : (S : Type 0) → Runs S
+unfolding exec look put branch bind handle mapOut enter leave onReply ask tick iter class records-of fixed
+runs-hold S = record {
+  before = λ H h. refl;
+  behind = λ H h.
+      rw (H .keeps .says h (question 28 1 []) 2 refl) (rw (H .keeps .stays h (question 28 1 []) 2 refl)
+      (rw (H .keeps .says h (question 23 2 (2 ∷ [])) 3 refl) (rw (H .keeps .stays h (question 23 2 (2 ∷ [])) 3 refl)
+      (rw (H .keeps .says h (question 7 3 []) 4 refl) (rw (H .keeps .stays h (question 7 3 []) 4 refl)
+      (rw (H .keeps .says h (question 12 0 (2 ∷ 3 ∷ 4 ∷ [])) 1 refl) refl))))));
+}
+
+pub examples-hold : (S : Type 0) → Examples S
+examples-hold S = record { published = pass-lowers; described = description-lowers; runs = runs-hold S }

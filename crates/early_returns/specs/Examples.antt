@@ -1,0 +1,170 @@
+-- Functions before and after lowering, written out, and the first of them run. Assumes nothing.
+use mathlib.Core.Bool.{Bool, true, false}
+use mathlib.Core.List.{List, [], _∷_}
+use mathlib.Core.Path.{_≡_}
+use Prim.Native.Nat.{ℕ}
+use Rattle.std.specs.declared.option.Option.{Option}
+use Rattle.std.specs.declared.option.Option.the-variants.{Some, None}
+use Rattle.hir.specs.declared.place.Place.{Place}
+use Rattle.hir.specs.declared.place.Effect.{Effect}
+use Rattle.hir.specs.declared.place.Effect.the-variants.{Unknown, Read, Capture, ConditionallyMutate}
+use Rattle.hir.specs.declared.terminal.ReactiveLabel.{ReactiveLabel}
+use Rattle.hir.specs.declared.terminal.ReactiveTerminalTargetKind.the-variants.{Labeled}
+use Rattle.hir.specs.declared.environment.Counters.{Counters}
+use Rattle.hir.specs.declared.environment.Identifier.{Identifier}
+use Rattle.hir.specs.declared.environment.IdentifierName.{IdentifierName}
+use Rattle.hir.specs.declared.environment.IdentifierName.the-variants.{Named, Promoted}
+use Rattle.hir.specs.declared.environment.ReactiveScopeEarlyReturn.{ReactiveScopeEarlyReturn}
+use Rattle.hir.specs.declared.environment.ReactiveScopeDeclaration.{ReactiveScopeDeclaration}
+use Rattle.hir.specs.Tree.{operation, Op, instr, Stmt, instruction, scope, pruned, terminal, break, return, label, Block, nil, cons, ScopeInfo, Function}
+use Rattle.semantics.specs.Machine.{Meaning}
+use Rattle.semantics.specs.Exec.{exec, ran}
+use Rattle.semantics.specs.declared.Outcome.{Outcome}
+use Rattle.semantics.specs.declared.Outcome.the-variants.{Returned}
+use Rattle.semantics.specs.declared.Ran.{Ran}
+use Rattle.early_returns.specs.Lowering.{lowered}
+use Rattle.early_returns.specs.Pass.{propagate-early-returns}
+
+-- ---- how the examples are written
+abbrev pub place : ℕ → Effect → Bool → ℕ → Place
+place identifier effect reactive span = record { identifier = identifier; effect = effect; reactive = reactive; span = span }
+
+abbrev pub counters : ℕ → ℕ → ℕ → Counters
+counters blocks types ranges = record { blocks = blocks; types = types; ranges = ranges }
+
+abbrev pub identifier : ℕ → Option IdentifierName → ℕ → ℕ → ℕ → Identifier
+identifier declaration name range type span = record { declaration = declaration; name = name; range = range; scope = None; kind = type; span = span }
+
+abbrev pub function : Counters → List Identifier → List ScopeInfo → Block → Function
+function c is ss b = record { counters = c; identifiers = is; scopes = ss; body = b }
+
+abbrev pub plain : ScopeInfo
+plain = record { early = None; declarations = [] }
+
+-- scope x with the record of the identifier n and the label l
+abbrev pub recorded : ℕ → ℕ → ℕ → ℕ → ScopeInfo
+recorded x n span l = record { early = Some (record { value = n; span = span; label = l }); declarations = record { key = n; identifier = n; scope = x } ∷ [] }
+
+-- an instruction: its lvalue, kind, payload, written places, operands and span
+abbrev pub does : Option Place → ℕ → ℕ → List Place → List Place → ℕ → Stmt
+does lvalue kind payload written operands span = instruction (instr 0 lvalue (operation (record { kind = kind; payload = payload; written = written; operands = operands; span = span })) span)
+
+abbrev pub returns : ℕ → ℕ → Stmt
+returns p span = terminal (return (place p Read true span) 5) None
+
+abbrev pub named : Identifier
+named = identifier 0 (Some (Named 40)) 0 0 9
+
+-- the five identifiers from 1 on
+abbrev pub five : ℕ → List Identifier
+five span = identifier 1 (Some (Promoted 1)) 1 1 span ∷ identifier 2 None 2 2 span ∷ identifier 3 None 3 3 span ∷ identifier 4 None 4 4 span ∷ identifier 5 None 5 5 span ∷ []
+
+-- a scope's block with its opening, by the identifiers, the label and the span
+abbrev pub opened : ℕ → ℕ → ℕ → ℕ → ℕ → ℕ → ℕ → Block → Block
+opened n sentinel symbol for arg l span b =
+    cons (does (Some (place symbol Unknown false 0)) 28 1 [] [] span)
+    (cons (does (Some (place for Unknown false 0)) 23 2 [] (place symbol Unknown false 0 ∷ []) span)
+    (cons (does (Some (place arg Unknown false 0)) 7 3 [] [] span)
+    (cons (does (Some (place sentinel Unknown false 0)) 12 0 [] (place symbol Unknown false 0 ∷ place for Unknown false 0 ∷ place arg Unknown false 0 ∷ []) span)
+    (cons (does None 4 1 (place n ConditionallyMutate true span ∷ []) (place sentinel Unknown false 0 ∷ []) span)
+    (cons (terminal (label b 0) (Some (record { id = l; implicit = false }))) nil)))))
+
+-- in the place of a return of p: n gets the value, and the break goes to l
+abbrev pub leaves : ℕ → ℕ → ℕ → ℕ → Block → Block
+leaves n l p span r = cons (does None 4 2 (place n Capture true span ∷ []) (place p Read true span ∷ []) span) (cons (terminal (break l 0 Labeled) None) r)
+
+-- ---- the examples
+-- a return in a scope
+abbrev pub return-in-scope : Function
+return-in-scope = function (counters 7 1 1) (named ∷ []) (plain ∷ []) (cons (scope 0 (cons (returns 0 9) nil)) nil)
+
+abbrev pub return-in-scope-lowered : Function
+return-in-scope-lowered = record {
+  counters = record { blocks = 8; types = 6; ranges = 6 };
+  identifiers =
+      record { declaration = 0; name = Some (Named 40); range = 0; scope = None; kind = 0; span = 9 }
+      ∷ record { declaration = 1; name = Some (Promoted 1); range = 1; scope = None; kind = 1; span = 9 }
+      ∷ record { declaration = 2; name = None; range = 2; scope = None; kind = 2; span = 9 }
+      ∷ record { declaration = 3; name = None; range = 3; scope = None; kind = 3; span = 9 }
+      ∷ record { declaration = 4; name = None; range = 4; scope = None; kind = 4; span = 9 }
+      ∷ record { declaration = 5; name = None; range = 5; scope = None; kind = 5; span = 9 }
+      ∷ [];
+  scopes = record { early = Some (record { value = 1; span = 9; label = 7 }); declarations = record { key = 1; identifier = 1; scope = 0 } ∷ [] } ∷ [];
+  body = cons (scope 0
+      (cons (does (Some (place 3 Unknown false 0)) 28 1 [] [] 9)
+      (cons (does (Some (place 4 Unknown false 0)) 23 2 [] (place 3 Unknown false 0 ∷ []) 9)
+      (cons (does (Some (place 5 Unknown false 0)) 7 3 [] [] 9)
+      (cons (does (Some (place 2 Unknown false 0)) 12 0 [] (place 3 Unknown false 0 ∷ place 4 Unknown false 0 ∷ place 5 Unknown false 0 ∷ []) 9)
+      (cons (does None 4 1 (place 1 ConditionallyMutate true 9 ∷ []) (place 2 Unknown false 0 ∷ []) 9)
+      (cons (terminal (label
+          (cons (does None 4 2 (place 1 Capture true 9 ∷ []) (place 0 Read true 9 ∷ []) 9)
+          (cons (terminal (break 7 0 Labeled) None) nil)) 0) (Some (record { id = 7; implicit = false }))) nil))))))) nil;
+}
+
+-- under no scope, and under pruned scopes only
+abbrev pub return-in-no-scope : Function
+return-in-no-scope = function (counters 7 1 1) (named ∷ []) (plain ∷ []) (cons (returns 0 9) nil)
+
+abbrev pub return-in-pruned-scopes : Function
+return-in-pruned-scopes = function (counters 7 1 1) (named ∷ []) (plain ∷ []) (cons (pruned 0 (cons (pruned 0 (cons (returns 0 9) nil)) nil)) nil)
+
+-- under a pruned scope inside a scope
+abbrev pub pruned-in-scope : Block → Function
+pruned-in-scope b = function (counters 7 1 1) (named ∷ []) (plain ∷ plain ∷ []) (cons (scope 0 (cons (pruned 1 b) nil)) nil)
+
+abbrev pub pruned-in-scope-lowered : Function
+pruned-in-scope-lowered = function (counters 8 6 6) (named ∷ five 9) (recorded 0 1 9 7 ∷ plain ∷ []) (cons (scope 0 (opened 1 2 3 4 5 7 9 (cons (pruned 1 (leaves 1 7 0 9 nil)) nil))) nil)
+
+-- two outermost scopes, with returns of other spans
+abbrev pub two-scopes : Function
+two-scopes = function (counters 7 1 1) (named ∷ []) (plain ∷ plain ∷ []) (cons (scope 0 (cons (returns 0 9) nil)) (cons (scope 1 (cons (returns 0 11) nil)) nil))
+
+abbrev pub two-scopes-lowered : Function
+two-scopes-lowered = function (counters 9 11 11)
+    (named ∷ identifier 1 (Some (Promoted 1)) 1 1 9 ∷ identifier 2 None 2 2 9 ∷ identifier 3 None 3 3 9 ∷ identifier 4 None 4 4 9 ∷ identifier 5 None 5 5 9
+    ∷ identifier 6 (Some (Promoted 6)) 6 6 11 ∷ identifier 7 None 7 7 11 ∷ identifier 8 None 8 8 11 ∷ identifier 9 None 9 9 11 ∷ identifier 10 None 10 10 11 ∷ [])
+    (recorded 0 1 9 7 ∷ recorded 1 6 11 8 ∷ [])
+    (cons (scope 0 (opened 1 2 3 4 5 7 9 (leaves 1 7 0 9 nil))) (cons (scope 1 (opened 6 7 8 9 10 8 11 (leaves 6 8 0 11 nil))) nil))
+
+-- a scope inside a scope has the outermost one's identifier and label; the first open return gives n its span
+abbrev pub scope-in-scope : Function
+scope-in-scope = function (counters 7 1 1) (named ∷ []) (plain ∷ plain ∷ []) (cons (scope 0 (cons (scope 1 (cons (returns 0 11) nil)) (cons (returns 0 9) nil))) nil)
+
+abbrev pub scope-in-scope-lowered : Function
+scope-in-scope-lowered = function (counters 8 6 6) (named ∷ five 11) (recorded 0 1 11 7 ∷ plain ∷ [])
+    (cons (scope 0 (opened 1 2 3 4 5 7 11 (cons (scope 1 (leaves 1 7 0 11 nil)) (leaves 1 7 0 9 nil)))) nil)
+
+-- a scope with a record stays, outermost and inside another one
+abbrev pub recorded-scope : Function
+recorded-scope = function (counters 7 1 1) (named ∷ []) (recorded 0 0 9 3 ∷ []) (cons (scope 0 (cons (returns 0 9) nil)) nil)
+
+abbrev pub recorded-in-scope : Function
+recorded-in-scope = function (counters 7 1 1) (named ∷ []) (plain ∷ recorded 1 0 9 3 ∷ []) (cons (scope 0 (cons (scope 1 (cons (returns 0 11) nil)) (cons (returns 0 9) nil))) nil)
+
+abbrev pub recorded-in-scope-lowered : Function
+recorded-in-scope-lowered = function (counters 8 6 6) (named ∷ five 9) (recorded 0 1 9 7 ∷ recorded 1 0 9 3 ∷ [])
+    (cons (scope 0 (opened 1 2 3 4 5 7 9 (cons (scope 1 (cons (returns 0 11) nil)) (leaves 1 7 0 9 nil)))) nil)
+
+-- ---- the table
+pub record Lowers (lower : Function → Function) : Type 0 where
+  pub in-a-scope : lower return-in-scope ≡ return-in-scope-lowered
+  pub in-no-scope : lower return-in-no-scope ≡ return-in-no-scope
+  pub in-pruned-scopes : lower return-in-pruned-scopes ≡ return-in-pruned-scopes
+  pub in-a-pruned-scope-in-a-scope : lower (pruned-in-scope (cons (returns 0 9) nil)) ≡ pruned-in-scope-lowered
+  pub in-two-scopes : lower two-scopes ≡ two-scopes-lowered
+  pub in-a-scope-in-a-scope : lower scope-in-scope ≡ scope-in-scope-lowered
+  pub in-a-recorded-scope : lower recorded-scope ≡ recorded-scope
+  pub in-a-recorded-scope-in-a-scope : lower recorded-in-scope ≡ recorded-in-scope-lowered
+
+abbrev pub runs-so : Outcome → ℕ → ℕ → Bool → Ran
+runs-so outcome steps entries recorded = record { outcome = outcome; steps = steps; entries = entries; recorded = recorded }
+
+-- the first example run before and after, whatever the host: with these budgets, the least
+pub record Runs (S : Type 0) : Type 0 where
+  pub before : (H : Meaning S) (h : S) → ran (exec H return-in-scope 2 h (5 ∷ [])) ≡ runs-so (Returned 5) 2 0 false
+  pub behind : (H : Meaning S) (h : S) → ran (exec H return-in-scope-lowered 9 h (5 ∷ 0 ∷ 0 ∷ 0 ∷ 0 ∷ 0 ∷ [])) ≡ runs-so (Returned 5) 9 1 true
+
+pub record Examples (S : Type 0) : Type 0 where
+  pub published : Lowers propagate-early-returns
+  pub described : Lowers lowered
+  pub runs : Runs S
