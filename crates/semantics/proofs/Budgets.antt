@@ -10,10 +10,9 @@ use borrow.Author.Tests.{clash}
 use Rattle.hir.specs.Tree.{Function}
 use Rattle.semantics.specs.Machine.{Meaning, State, Out, Result, done, spent}
 use Rattle.semantics.specs.Exec.{exec}
-use Rattle.semantics.specs.Laws.{is-spent, steps-of, LargerBudgets, OneResult, SpentExactly, MoreRounds, RoundsAgree, RecordsOnce}
+use Rattle.semantics.specs.Laws.{is-spent, steps-of, LargerBudgets, OneResult, SpentExactly, MoreRounds, RoundsAgree}
 use Rattle.semantics.proofs.Link.{either-way, used-up, unbounded-exec, exec-unbounded, exec-larger}
 use Rattle.semantics.proofs.Rounds.{more-rounds}
-use Rattle.semantics.proofs.Records.{returns-once}
 
 -- what holds of an ending holds of a result that is not spent
 on-end : {S : Type 0} {r q : Result S} → ((o : Out) (t : State S) → r ≡ done o t → q ≡ done o t) → is-spent r ≡ false → q ≡ r
@@ -80,6 +79,3 @@ rounds-agree H F h σ = record {
   within-budget = λ B e. on-end (λ o t i. exec-unbounded H F h σ B o t i .0) e;
   without = λ B f e i. on-end (λ o t z. unbounded-exec H F h σ B f o t z (subst (λ (n : ℕ). n ≤ B) (ap steps-of z) i)) e;
 }
-
-pub records-once : {S : Type 0} → RecordsOnce S
-records-once H F h σ B = returns-once H F B h σ

@@ -19,7 +19,7 @@ use Rattle.hir.specs.Tree.{Op, Val, operation, logical, conditional, sequence, 
 use Rattle.semantics.specs.Machine.{Meaning, State, Out, normal, broke, continued, returned, threw, Result, done, spent, stepped, gave, moved, wrote, at, all-at, assign, bind, handle, mapOut, enter, leave, branch, onReply, ask, test, ask-each, tick, iter}
 use Rattle.semantics.specs.Targets.{mark, mark-inside, Around, nowhere, has, labelled, inSwitch, inLoop, orImplicit, aimB, aimO, aimK, aimT, aimS}
 use Rattle.semantics.specs.Exec.{Class, loads, declares, stores, asks-each, asks, class, when, hasLabel, endLoop, endRound, endLabel, default, records-of, evalOp, evalV, evalI, evalIs, evalO, select, tested, runS, runT, runFrom, runO, runB, begin, within, exec}
-use Rattle.semantics.specs.Laws.{EndF, NoJumpLeaves}
+use Rattle.semantics.specs.Laws.{NoJump, NoJumpLeaves}
 
 -- a jump may leave a part if its target stands around it
 abbrev Allowed : Around → Out → Type 0
@@ -258,7 +258,7 @@ module _ {S : Type 0} (H : Meaning S) where
         staysB nil a s = calm s
         staysB (cons x b) a s = bind-stays (staysS x a s) (λ t. staysB b a t)
 
-none-out : {S : Type 0} (r : Result S) → Stays nowhere r → EndF r
+none-out : {S : Type 0} (r : Result S) → Stays nowhere r → NoJump r
 none-out (done normal t) h = tt
 none-out (done (broke None) t) h = clash (h .stays)
 none-out (done (broke (Some l)) t) h = clash (h .stays)

@@ -17,6 +17,9 @@ use Rattle.semantics.proofs.Alike.{KeepsReturns, Kept, alikeB}
 pub either-way : (a b : ℕ) → (a ≤ b) ⊎ (b < a)
 either-way a b = grind arith
 
+onward : {a b c : ℕ} → a ≤ b → b ≤ c → a ≤ c
+onward p q = omega arith
+
 module _ {S : Type 0} (B f : ℕ) where
   -- the budget is used up
   abbrev Used : Result S → Type 0
@@ -60,11 +63,8 @@ module _ {S : Type 0} (B f : ℕ) where
 
   bind-linked : {n m : ℕ} {d r : Result S} {k j : State S → Result S} → Linked n m d r → ((t : State S) → n ≤ t .steps → Linked (t .steps) (t .records) (k t) (j t)) → Linked n m (bind d k) (bind r j)
   unfolding bind
-  bind-linked {n} {d = done normal t} {r} {k} {j} h g = record { above = le (h .above) (g t (h .above) .above); ends = λ e. go e (either-way (t .steps) B) }
+  bind-linked {n} {d = done normal t} {r} {k} {j} h g = record { above = onward (h .above) (g t (h .above) .above); ends = λ e. go e (either-way (t .steps) B) }
     where
-      le : {a b c : ℕ} → a ≤ b → b ≤ c → a ≤ c
-      le p q = omega arith
-
       go : n ≤ B → ((t .steps ≤ B) ⊎ (B < t .steps)) → EndsF (k t) (bind r j)
       go e (inl i) = rw (h .ends e .0 i) (g t (h .above) .ends i)
       go e (inr i) = let a = g t (h .above) .above in late (k t) (bind r j) (omega arith) (used-bind r j (h .ends e .1 i))
@@ -76,11 +76,8 @@ module _ {S : Type 0} (B f : ℕ) where
 
   handle-linked : {n m : ℕ} {d r : Result S} {k j : ℕ → State S → Result S} → Linked n m d r → ((v : ℕ) (t : State S) → Linked (t .steps) (t .records) (k v t) (j v t)) → Linked n m (handle d k) (handle r j)
   unfolding handle
-  handle-linked {n} {d = done (threw v) t} {r} {k} {j} h g = record { above = le (h .above) (g v t .above); ends = λ e. go e (either-way (t .steps) B) }
+  handle-linked {n} {d = done (threw v) t} {r} {k} {j} h g = record { above = onward (h .above) (g v t .above); ends = λ e. go e (either-way (t .steps) B) }
     where
-      le : {a b c : ℕ} → a ≤ b → b ≤ c → a ≤ c
-      le p q = omega arith
-
       go : n ≤ B → ((t .steps ≤ B) ⊎ (B < t .steps)) → EndsF (k v t) (handle r j)
       go e (inl i) = rw (h .ends e .0 i) (g v t .ends i)
       go e (inr i) = let a = g v t .above in late (k v t) (handle r j) (omega arith) (used-handle r j (h .ends e .1 i))

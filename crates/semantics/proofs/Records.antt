@@ -2,17 +2,25 @@
 -- Until then the count is 0; the return goes through whatever stands around it.
 use mathlib.Core.Path.{_≡_, refl}
 use mathlib.Core.Bool.{Bool, true, false}
-use mathlib.Core.List.{List}
-use Prim.Native.Nat.{ℕ, zero, suc}
+use Prim.Native.Nat.{ℕ, zero, suc, _≤_}
 use native.Mathlib.Omega.{arith}
-use Rattle.hir.specs.Tree.{Function}
+use lib.Dec.{ltb}
+use borrow.Author.Tests.{ltb-true}
 use Rattle.semantics.specs.Machine.{Meaning, State, Out, normal, broke, continued, returned, threw, Result, done, spent, stepped, bind, handle, mapOut, branch, tick, iter}
 use Rattle.semantics.specs.Targets.{nowhere, aimB}
 use Rattle.semantics.specs.Exec.{records-of, begin, within, exec}
-use Rattle.semantics.specs.Laws.{OnceF}
+use Rattle.semantics.specs.Laws.{bit, RecordAt, RecordsOnce}
 use Rattle.semantics.proofs.Alike.{KeepsReturns, Kept, alikeB}
 
 module _ {S : Type 0} where
+  abbrev OnceF : Result S → Type 0
+  OnceF (done normal t) = t .records ≡ 0
+  OnceF (done (broke l) t) = t .records ≡ 0
+  OnceF (done (continued l) t) = t .records ≡ 0
+  OnceF (done (returned v) t) = t .records ≤ 1
+  OnceF (done (threw v) t) = t .records ≡ 0
+  OnceF (spent t) = t .records ≡ 0
+
   -- from a state in which no record has returned
   record Once (n m : ℕ) (d r : Result S) : Type 0 where
     once : m ≡ 0 → OnceF d
@@ -76,6 +84,24 @@ module _ {S : Type 0} where
       loops = λ g s. iter-once g x s;
     }
 
-pub returns-once : {S : Type 0} (H : Meaning S) (F : Function) (B : ℕ) (h : S) (σ : List ℕ) → OnceF (exec H F B h σ)
+-- a count of at most one is the bit that says whether it is above zero
+as-bit : (n : ℕ) → n ≤ 1 → n ≡ bit (ltb 0 n)
+as-bit zero h = refl
+as-bit (suc zero) h = refl
+as-bit (suc (suc n)) h = absurd (omega arith)
+
+none-told : (n : ℕ) → n ≡ 0 → ltb 0 n ≡ true → ⊥
+none-told n e h = let z = ltb-true 0 n h in absurd (omega arith)
+
+module _ {S : Type 0} where
+  told : (r : Result S) → OnceF r → RecordAt r
+  told (done normal t) h = record { at-most-one = as-bit _ (omega arith); returns = λ e. absurd (none-told _ h e) }
+  told (done (broke l) t) h = record { at-most-one = as-bit _ (omega arith); returns = λ e. absurd (none-told _ h e) }
+  told (done (continued l) t) h = record { at-most-one = as-bit _ (omega arith); returns = λ e. absurd (none-told _ h e) }
+  told (done (returned v) t) h = record { at-most-one = as-bit _ h; returns = λ e. (v, refl) }
+  told (done (threw v) t) h = record { at-most-one = as-bit _ (omega arith); returns = λ e. absurd (none-told _ h e) }
+  told (spent t) h = record { at-most-one = as-bit _ (omega arith); returns = λ e. absurd (none-told _ h e) }
+
+pub records-once : {S : Type 0} → RecordsOnce S
 unfolding exec
-returns-once H F B h σ = alikeB H (within H B) (within H B) (suc B) (suc B) Once (once-kept H (within H B) (suc B)) (records-of (F .scopes)) (aimB (F .body) nowhere) (begin H h σ) .once refl
+records-once H F h σ B = told _ (alikeB H (within H B) (within H B) (suc B) (suc B) Once (once-kept H (within H B) (suc B)) (records-of (F .scopes)) (aimB (F .body) nowhere) (begin H h σ) .once refl)

@@ -5,7 +5,8 @@ use mathlib.Core.Path.{_≡_}
 use Prim.Native.Nat.{ℕ, suc, _≤_}
 use Rattle.hir.specs.Tree.{Function}
 use Rattle.semantics.specs.Machine.{Meaning, normal, broke, continued, returned, threw, Result, done, spent}
-use Rattle.semantics.specs.Exec.{exec, unbounded, last}
+use Rattle.semantics.specs.Exec.{exec, unbounded, last, ran, outcome-of}
+use Rattle.semantics.specs.declared.Outcome.the-variants.{Returned}
 
 abbrev pub is-spent : {S : Type 0} → Result S → Bool
 is-spent (done o t) = false
@@ -48,26 +49,26 @@ pub record AgreesAt {S : Type 0} (H : Meaning S) (F : Function) (h : S) (σ : Li
 abbrev pub RoundsAgree : Type 0 → Type 0
 RoundsAgree S = EachRun S AgreesAt
 
--- a record returns at most once, and only in a run that returns
-abbrev pub OnceF : {S : Type 0} → Result S → Type 0
-OnceF (done normal t) = t .records ≡ 0
-OnceF (done (broke l) t) = t .records ≡ 0
-OnceF (done (continued l) t) = t .records ≡ 0
-OnceF (done (returned v) t) = t .records ≤ 1
-OnceF (done (threw v) t) = t .records ≡ 0
-OnceF (spent t) = t .records ≡ 0
+abbrev pub bit : Bool → ℕ
+bit true = 1
+bit false = 0
+
+-- a record returns at most once, so what a caller is told of it is the whole count; and only a run that returns has such a return
+pub record RecordAt {S : Type 0} (r : Result S) : Type 0 where
+  pub at-most-one : last r .records ≡ bit (ran r .recorded)
+  pub returns : ran r .recorded ≡ true → (v : ℕ) × (outcome-of r ≡ Returned v)
 
 abbrev pub RecordsOnce : Type 0 → Type 0
-RecordsOnce S = EachRun S (λ H F h σ. (B : ℕ) → OnceF (exec H F B h σ))
+RecordsOnce S = EachRun S (λ H F h σ. (B : ℕ) → RecordAt (exec H F B h σ))
 
 -- a run that is not spent ends normally, returns or throws: every jump is taken inside the function
-abbrev pub EndF : {S : Type 0} → Result S → Type 0
-EndF (done normal t) = Unit {0}
-EndF (done (broke l) t) = ⊥
-EndF (done (continued l) t) = ⊥
-EndF (done (returned v) t) = Unit {0}
-EndF (done (threw v) t) = Unit {0}
-EndF (spent t) = Unit {0}
+abbrev pub NoJump : {S : Type 0} → Result S → Type 0
+NoJump (done normal t) = Unit {0}
+NoJump (done (broke l) t) = ⊥
+NoJump (done (continued l) t) = ⊥
+NoJump (done (returned v) t) = Unit {0}
+NoJump (done (threw v) t) = Unit {0}
+NoJump (spent t) = Unit {0}
 
 abbrev pub NoJumpLeaves : Type 0 → Type 0
-NoJumpLeaves S = EachRun S (λ H F h σ. (B : ℕ) → EndF (exec H F B h σ))
+NoJumpLeaves S = EachRun S (λ H F h σ. (B : ℕ) → NoJump (exec H F B h σ))
