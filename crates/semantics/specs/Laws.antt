@@ -1,4 +1,4 @@
--- Laws of the run: what a budget decides, what a bound on rounds does, how often a record returns. Each for every function and every host with states of the type S. Assumes nothing.
+-- Laws of the run: what a budget decides, what a bound on rounds does, how often a record returns, that no jump leaves. Each for every function and every host with states of the type S. Assumes nothing.
 use mathlib.Core.Bool.{Bool, true, false}
 use mathlib.Core.List.{List}
 use mathlib.Core.Path.{_≡_}
