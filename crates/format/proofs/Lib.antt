@@ -3,3 +3,6 @@ pub mod Begun
 pub mod TookValues
 pub mod TookStatements
 pub mod TookTables
+pub mod Sections
+pub mod Counts
+pub mod Undone
