@@ -2,3 +2,4 @@ pub mod Limits
 pub mod Empty
 pub mod Bound
 pub mod Parts
+pub mod Grow

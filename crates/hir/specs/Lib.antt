@@ -7,3 +7,4 @@ pub mod Sizes
 pub mod Limits
 pub mod Held
 pub mod Tables
+pub mod Grows
