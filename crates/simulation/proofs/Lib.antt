@@ -4,5 +4,6 @@ pub mod Rel
 pub mod Cong
 pub mod Identity
 pub mod Targets
+pub mod Larger
 pub mod Simulate
 pub mod Compose
