@@ -7,3 +7,6 @@ pub mod Growth
 pub mod Opening
 pub mod Inside
 pub mod Sim
+pub mod KeepsBody
+pub mod KeepsTables
+pub mod KeepsScopes
