@@ -6,3 +6,4 @@ pub mod TookTables
 pub mod Sections
 pub mod Counts
 pub mod Undone
+pub mod Bytes

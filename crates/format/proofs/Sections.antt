@@ -49,7 +49,7 @@ pub record Stands (ws : List ℕ) (offset long from to : ℕ) : Type 0 where
   pub ends : to ≡ from + long
   pub within : to ≤ length ws
 
-cond-true : {X : Type 0} (b : Bool) (x y : Result X FileFault) (z : X) (e : FileFault) → y ≡ Err e → cond b x y ≡ Ok z → (b ≡ true) × (x ≡ Ok z)
+pub cond-true : {X : Type 0} (b : Bool) (x y : Result X FileFault) (z : X) (e : FileFault) → y ≡ Err e → cond b x y ≡ Ok z → (b ≡ true) × (x ≡ Ok z)
 cond-true true x y z e h q = (refl, q)
 cond-true false x y z e h q = absurd (err-ok (sym h ∙ q))
 
