@@ -10,3 +10,4 @@ pub mod Sim
 pub mod KeepsBody
 pub mod KeepsTables
 pub mod KeepsScopes
+pub mod KeepsJumps
