@@ -11,3 +11,4 @@ pub mod KeepsBody
 pub mod KeepsTables
 pub mod KeepsScopes
 pub mod KeepsJumps
+pub mod Faithful

@@ -3,3 +3,4 @@ pub mod Lowering
 pub mod Pass
 pub mod Promises
 pub mod Examples
+pub mod Faithful
