@@ -1,1 +1,2 @@
 pub mod Unrecorded
+pub mod Behaves

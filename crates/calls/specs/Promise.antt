@@ -9,7 +9,7 @@ use Rattle.std.specs.declared.option.Option.the-variants.{Some, None}
 use Rattle.hir.specs.Tree.{Function, ScopeInfo}
 use Rattle.semantics.specs.Machine.{Meaning, Result}
 use Rattle.semantics.specs.Exec.{exec, ran, last}
-use Rattle.semantics.specs.Laws.{is-spent}
+use Rattle.semantics.specs.Laws.{is-spent, bit}
 use Rattle.semantics.specs.Targets.{TgB, nowhere}
 use Rattle.semantics.specs.declared.Outcome.{Outcome}
 use Rattle.semantics.specs.declared.Outcome.the-variants.{Returned}
@@ -36,17 +36,13 @@ HandedIn S (walking f) = Faithful S f
 abbrev pub AllHandedIn : Type 0 → List Made → Type 0
 AllHandedIn S ms = All (λ m. HandedIn S (m .call)) ms
 
-abbrev pub one-if : Bool → ℕ
-one-if true = 1
-one-if false = 0
-
 -- a run of the loaded function that ended, against a run of the function found
 pub record Alike {S : Type 0} (loaded later : Result S) : Type 0 where
   pub not-spent : is-spent later ≡ false
   pub same-outcome : ran later .outcome ≡ ran loaded .outcome
   pub same-host : last later .host ≡ last loaded .host
   -- six steps more for each entry to a recorded scope, and one if a record returned
-  pub few-steps : ran later .steps ≤ ran loaded .steps + 6 * ran later .entries + one-if (ran later .recorded)
+  pub few-steps : ran later .steps ≤ ran loaded .steps + 6 * ran later .entries + bit (ran later .recorded)
 
 -- the function G found behaves as the loaded one F, on hosts with states of the type S, from the same start
 pub record Behaves (S : Type 0) (F G : Function) : Type 0 where
