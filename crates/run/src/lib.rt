@@ -1,1 +1,3 @@
-// A function runs against a host, step by step.
+// The run of a function over its tables: a loop with a stack of numbers, on lent memory.
+pub mod frame;
+pub mod memory;
