@@ -9,7 +9,7 @@ use native.Mathlib.Omega.{arith}
 use native.Mathlib.Numerals.{add-one}
 use borrow.Author.Tests.{leb-true}
 use lib.Dec.{leb}
-use lib.ListN.{length, take, drop}
+use lib.ListN.{length, getD, take, drop}
 use lib.Seq.{drop-drop}
 use Rattle.std.proofs.shelf.Tests.{le-leb}
 use Rattle.std.specs.declared.option.Option.{Option}
@@ -31,6 +31,11 @@ pub nth-in : {X : Type 0} (xs : List X) (k : ℕ) (x : X) → nth xs k ≡ Some 
 nth-in [] k x e = none-some x e
 nth-in (y ∷ xs) zero x e = omega arith
 nth-in (y ∷ xs) (suc k) x e = suc-le-suc (nth-in xs k x e)
+
+pub nth-read : {X : Type 0} (xs : List X) (k : ℕ) (x : X) → k < length xs → x ≡ getD xs k x → nth xs k ≡ Some x
+nth-read [] k x h e = absurd (omega arith)
+nth-read {X = X} (y ∷ xs) zero x h e = ap (λ (z : X). Some z) (sym e)
+nth-read (y ∷ xs) (suc k) x h e = nth-read xs k x (omega arith) e
 
 drop-nth : {X : Type 0} (xs : List X) (k : ℕ) (x : X) → nth xs k ≡ Some x → drop k xs ≡ x ∷ drop (suc k) xs
 drop-nth [] k x e = none-some x e
