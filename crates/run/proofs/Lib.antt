@@ -2,3 +2,4 @@ pub mod Rows
 pub mod Decoded
 pub mod Stack
 pub mod Turning
+pub mod ValueTurns
