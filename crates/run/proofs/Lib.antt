@@ -3,3 +3,4 @@ pub mod Decoded
 pub mod Stack
 pub mod Turning
 pub mod ValueTurns
+pub mod StepTurns

@@ -4,15 +4,17 @@ use mathlib.Core.Bool.{Bool, true, false}
 use mathlib.Core.List.{List, [], _∷_, _++_}
 use Prim.Native.Nat.{ℕ, suc, _+_, _≤_, _<_}
 use Rattle.std.specs.declared.option.Option.{Option}
+use Rattle.std.specs.declared.option.Option.the-variants.{Some, None}
+use Rattle.hir.specs.declared.place.Place.{Place}
 use Rattle.std.specs.Of.Vec.{vec-items}
 use Rattle.hir.specs.Decode.{Slots}
 use Rattle.hir.specs.Held.{slots}
 use Rattle.hir.specs.Numbers.{flag-number}
 use Rattle.hir.specs.declared.tables.Tables.{Tables}
 use Rattle.hir.specs.Tables.{function-of}
-use Rattle.host.specs.Asked.{Asked, Keeps}
+use Rattle.host.specs.Asked.{Asked, Keeps, asked}
 use Rattle.host.specs.declared.Reply.{Reply}
-use Rattle.semantics.specs.Machine.{Meaning, State, Out, normal, broke, continued, returned, threw, Result, done, spent}
+use Rattle.semantics.specs.Machine.{Meaning, State, Out, normal, broke, continued, returned, threw, Result, done, spent, put}
 use Rattle.semantics.specs.Exec.{records-of}
 use Rattle.run.specs.declared.frame.Exit.{Exit}
 use Rattle.run.specs.declared.frame.Exit.the-variants as E
@@ -74,3 +76,12 @@ module _ {S : Type 0} (answer : S → Asked → Reply) (next : S → Asked → S
       (w : Result S) → At w m (vec-items (m .frames) ++ f ∷ []) σ h
       → At w m′ (vec-items (m′ .frames)) σ′ h′
       × (measure (slots (T .arena)) B (whole-weight T) (m′ .steps) (vec-items (m′ .frames)) < measure (slots (T .arena)) B (whole-weight T) (m .steps) (vec-items (m .frames) ++ f ∷ []))
+
+-- an optional place gets a value
+abbrev pub kept : Option Place → List ℕ → ℕ → List ℕ
+kept None σ v = σ
+kept (Some p) σ v = put σ (p .identifier) v
+
+-- what a test asks
+abbrev pub test-of : ℕ → ℕ → Asked
+test-of payload v = asked (record { kind = 42; payload = payload; position = 0 }) (v ∷ [])
