@@ -1,1 +1,2 @@
 // Writes the function that tables hold as a file.
+mod word;

@@ -1,0 +1,13 @@
+// A word of the file: four bytes, the lowest first.
+ghost use mathlib.Core.List.{[], _∷_};
+ghost use Rattle.write.specs.Puts.{Room, Wrote};
+
+// Every `put` function writes from word `at` on, and answers the number of the word after what it wrote.
+pub fn put_word(out: &mut [u8], at: usize, word: u32) -> usize
+    requires { ⌜ Room (now out) at (word ∷ []) ⌝ }
+    ensures { λ r. ⌜ Wrote (now (out .entry)) (now (out .exit)) at (word ∷ []) r ⌝ }
+{
+    let bytes = word.to_le_bytes();
+    out[4 * at..4 * at + 4].copy_from_slice(&bytes);
+    at + 1
+}
