@@ -143,6 +143,15 @@ module _ (a : ValueSlots) (val : ℕ → Option Val) where
       let q = bound (instrs-of val (take (n - 1) (drop (start + 1) (a .instructions)))) _ x (p .2) in
       record { first = p .0; rest = q .0; first-is = p .1; rest-are = q .1; is = some-some (q .2) }
 
+module _ (val : ℕ → Option Val) where
+  pub record SomeValueParts (k : ℕ) (x : OptVal) : Type 0 where
+    pub value : Val
+    pub value-is : val k ≡ Some value
+    pub is : someVal value ≡ x
+
+  pub some-value-parts : (k : ℕ) (x : OptVal) → opt-value-of val (Some k) ≡ Some x → SomeValueParts k x
+  some-value-parts k x e = let p = bound (val k) _ x e in record { value = p .0; value-is = p .1; is = some-some (p .2) }
+
 -- a slot that stands for a value: there is depth left, it is within its table, and what stands there is decoded one less deep
 pub record ValueParts (d : ℕ) (a : ValueSlots) (k : ℕ) (x : Val) : Type 0 where
   pub deep : d ≢ 0
@@ -162,14 +171,6 @@ value-parts (suc d) a k x e =
 
 -- ---- statements
 module _ (a : Slots) (val : ℕ → Option Val) (block : Range → Option Block) where
-  pub record SomeValueParts (k : ℕ) (x : OptVal) : Type 0 where
-    pub value : Val
-    pub value-is : val k ≡ Some value
-    pub is : someVal value ≡ x
-
-  pub some-value-parts : (k : ℕ) (x : OptVal) → opt-value-of val (Some k) ≡ Some x → SomeValueParts k x
-  some-value-parts k x e = let p = bound (val k) _ x e in record { value = p .0; value-is = p .1; is = some-some (p .2) }
-
   pub record SomeBlockParts (r : Range) (x : OptBlock) : Type 0 where
     pub body : Block
     pub body-is : block r ≡ Some body

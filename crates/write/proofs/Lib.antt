@@ -1,1 +1,4 @@
 pub mod Lay
+pub mod Items
+pub mod Nodes
+pub mod Rows

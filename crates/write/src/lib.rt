@@ -1,2 +1,5 @@
 // Writes the function that tables hold as a file.
+mod number;
+mod place;
+mod value;
 mod word;

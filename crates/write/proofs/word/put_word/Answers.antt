@@ -15,5 +15,5 @@ returns c =
     record {
       is = ap₂ (λ x y. take (4 * at) o ++ (x ++ y)) (c .copy-from-slice .ensures .after ∙ c .to-le-bytes-bytes .ensures) past;
       to = omega arith;
-      fits = c .pre .fits;
+      fits = c .pre;
     }
