@@ -1,2 +1,3 @@
 pub mod Unrecorded
 pub mod Behaves
+pub mod Calls
