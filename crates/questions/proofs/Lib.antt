@@ -1,0 +1,6 @@
+pub mod Every
+pub mod Slots
+pub mod ValueParts
+pub mod Row
+pub mod Passing
+pub mod Optional

@@ -1,1 +1,4 @@
 pub mod Questions
+pub mod Pass
+pub mod Own
+pub mod Rows

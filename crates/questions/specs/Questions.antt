@@ -12,136 +12,63 @@ use Rattle.hir.specs.declared.environment.Identifier.{Identifier}
 use Rattle.hir.specs.declared.environment.ReactiveScopeEarlyReturn.{ReactiveScopeEarlyReturn}
 use Rattle.hir.specs.declared.environment.ReactiveScopeDeclaration.{ReactiveScopeDeclaration}
 use Rattle.hir.specs.Tree.{Op, Val, operation, logical, conditional, sequence, optional, OptVal, noVal, someVal, Instr, instr, Instrs, inil, icons, Stmt, instruction, scope, pruned, terminal, Term, break, continue, return, throw, switch, doWhile, while, for, forOf, forIn, if, label, try, Cases, knil, kcons, OptBlock, noBlock, someBlock, Block, nil, cons, ScopeInfo, Function}
-use Rattle.semantics.specs.Targets.{Around, nowhere, mark, mark-inside, labelled, inSwitch, inLoop, hits}
+use Rattle.semantics.specs.Targets.{Around, nowhere, mark, mark-inside, plus, labelled, inSwitch, inLoop, hits}
+use Rattle.questions.specs.declared.line.Bounds.{Bounds}
+use Rattle.questions.specs.declared.line.Line.{Line}
 
--- ---- a statement by itself: what it has of its own, without what the statements inside it have
+abbrev pub bounds-of : Function → Bounds
+bounds-of F =
+    record {
+      identifiers = length (F .identifiers);
+      scopes = length (F .scopes);
+      blocks = F .counters .blocks;
+      types = F .counters .types;
+      ranges = F .counters .ranges;
+    }
 
--- `owns` is the scope of a Scope block; `aims` is whether a jump has its target
-pub record Line : Type 0 where
-  pub places : List Place
-  pub ops : List Op
-  pub labels : List ℕ
-  pub scopes : List ℕ
-  pub owns : List ℕ
-  pub aims : Bool
+abbrev pub every : {X : Type 0} → (X → Bool) → List X → Bool
+every test [] = true
+every test (x ∷ xs) = test x && every test xs
 
-abbrev pub opt-place : Option Place → List Place
-opt-place None = []
-opt-place (Some p) = p ∷ []
+-- ---- identifiers in their table, labels and targets below the counter of blocks
 
--- the operations of a value, without those of a sequence's instructions, which are statements of their own
-abbrev pub val-ops : Val → List Op
-val-ops (operation o) = o ∷ []
-val-ops (logical o a b) = val-ops a ++ val-ops b
-val-ops (conditional c a b) = val-ops c ++ (val-ops a ++ val-ops b)
-val-ops (sequence is i v) = val-ops v
-val-ops (optional v o) = val-ops v
+abbrev pub place-in : Bounds → Place → Bool
+place-in B p = ltb (p .identifier) (B .identifiers)
 
-abbrev pub opt-val-ops : OptVal → List Op
-opt-val-ops noVal = []
-opt-val-ops (someVal v) = val-ops v
+abbrev pub opt-place-in : Bounds → Option Place → Bool
+opt-place-in B None = true
+opt-place-in B (Some p) = place-in B p
 
-abbrev pub line : List Place → List Op → Line
-line ps os = record { places = ps; ops = os; labels = []; scopes = []; owns = []; aims = true }
+abbrev pub ops-in : Bounds → List Op → Bool
+ops-in B [] = true
+ops-in B (o ∷ os) = (every (place-in B) (o .written) && every (place-in B) (o .operands)) && ops-in B os
 
--- the statements inside a value, in file order
-abbrev mutual
-  pub val-lines : Val → List Line
-  val-lines (operation o) = []
-  val-lines (logical o a b) = val-lines a ++ val-lines b
-  val-lines (conditional c a b) = val-lines c ++ (val-lines a ++ val-lines b)
-  val-lines (sequence is i v) = instrs-lines is ++ val-lines v
-  val-lines (optional v o) = val-lines v
+-- an implicit label too
+abbrev pub label-in : Bounds → Option ReactiveLabel → Bool
+label-in B None = true
+label-in B (Some l) = ltb (l .id) (B .blocks)
 
-  pub instr-lines : Instr → List Line
-  instr-lines (instr i l v s) = line (opt-place l) (val-ops v) ∷ val-lines v
+abbrev pub tests-in : Bounds → Cases → Bool
+tests-in B knil = true
+tests-in B (kcons t b cs) = opt-place-in B t && tests-in B cs
 
-  pub instrs-lines : Instrs → List Line
-  instrs-lines inil = []
-  instrs-lines (icons i is) = instr-lines i ++ instrs-lines is
+-- a terminal's places and its target, without its values
+abbrev pub term-in : Bounds → Term → Bool
+term-in B (break l i k) = ltb l (B .blocks)
+term-in B (continue l i k) = ltb l (B .blocks)
+term-in B (return p i) = place-in B p
+term-in B (throw p i) = place-in B p
+term-in B (switch p cs i) = place-in B p && tests-in B cs
+term-in B (doWhile b v i) = true
+term-in B (while v b i) = true
+term-in B (for n v u b i) = true
+term-in B (forOf n v b i s) = true
+term-in B (forIn v b i s) = true
+term-in B (if p b c i) = place-in B p
+term-in B (label b i) = true
+term-in B (try b p c i) = opt-place-in B p
 
-abbrev pub opt-val-lines : OptVal → List Line
-opt-val-lines noVal = []
-opt-val-lines (someVal v) = val-lines v
-
-abbrev pub label-numbers : Option ReactiveLabel → List ℕ
-label-numbers None = []
-label-numbers (Some l) = l .id ∷ []
-
-abbrev pub case-places : Cases → List Place
-case-places knil = []
-case-places (kcons t b cs) = opt-place t ++ case-places cs
-
--- a terminal's own line, in its surroundings; ls are the numbers of its label
-abbrev pub term-line : Term → List ℕ → Around → Line
-term-line (break l i k) ls a = record { places = []; ops = []; labels = l ∷ ls; scopes = []; owns = []; aims = hits (a .breaks) (a .labels) l k }
-term-line (continue l i k) ls a = record { places = []; ops = []; labels = l ∷ ls; scopes = []; owns = []; aims = hits (a .looped) (a .loops) l k }
-term-line (return p i) ls a = record { places = p ∷ []; ops = []; labels = ls; scopes = []; owns = []; aims = true }
-term-line (throw p i) ls a = record { places = p ∷ []; ops = []; labels = ls; scopes = []; owns = []; aims = true }
-term-line (switch p cs i) ls a = record { places = p ∷ case-places cs; ops = []; labels = ls; scopes = []; owns = []; aims = true }
-term-line (doWhile b v i) ls a = record { places = []; ops = val-ops v; labels = ls; scopes = []; owns = []; aims = true }
-term-line (while v b i) ls a = record { places = []; ops = val-ops v; labels = ls; scopes = []; owns = []; aims = true }
-term-line (for n v u b i) ls a = record { places = []; ops = val-ops n ++ (val-ops v ++ opt-val-ops u); labels = ls; scopes = []; owns = []; aims = true }
-term-line (forOf n v b i s) ls a = record { places = []; ops = val-ops n ++ val-ops v; labels = ls; scopes = []; owns = []; aims = true }
-term-line (forIn v b i s) ls a = record { places = []; ops = val-ops v; labels = ls; scopes = []; owns = []; aims = true }
-term-line (if p b c i) ls a = record { places = p ∷ []; ops = []; labels = ls; scopes = []; owns = []; aims = true }
-term-line (label b i) ls a = record { places = []; ops = []; labels = ls; scopes = []; owns = []; aims = true }
-term-line (try b p c i) ls a = record { places = opt-place p; ops = []; labels = ls; scopes = []; owns = []; aims = true }
-
--- the statements of a block and inside it, in file order, in their surroundings
-abbrev mutual
-  pub stmt-lines : Stmt → Around → List Line
-  stmt-lines (instruction i) a = instr-lines i
-  stmt-lines (scope x b) a = record { places = []; ops = []; labels = []; scopes = x ∷ []; owns = x ∷ []; aims = true } ∷ block-lines b a
-  stmt-lines (pruned x b) a = record { places = []; ops = []; labels = []; scopes = x ∷ []; owns = []; aims = true } ∷ block-lines b a
-  stmt-lines (terminal t m) a = term-line t (label-numbers m) a ∷ term-lines t (mark m) (labelled (mark-inside t m) a)
-
-  pub term-lines : Term → Option ℕ → Around → List Line
-  term-lines (break l i k) m a = []
-  term-lines (continue l i k) m a = []
-  term-lines (return p i) m a = []
-  term-lines (throw p i) m a = []
-  term-lines (switch p cs i) m a = cases-lines cs (inSwitch a)
-  term-lines (doWhile b v i) m a = block-lines b (inLoop m a) ++ val-lines v
-  term-lines (while v b i) m a = val-lines v ++ block-lines b (inLoop m a)
-  term-lines (for n v u b i) m a = val-lines n ++ (val-lines v ++ (opt-val-lines u ++ block-lines b (inLoop m a)))
-  term-lines (forOf n v b i s) m a = val-lines n ++ (val-lines v ++ block-lines b (inLoop m a))
-  term-lines (forIn v b i s) m a = val-lines v ++ block-lines b (inLoop m a)
-  term-lines (if p b c i) m a = block-lines b a ++ opt-block-lines c a
-  term-lines (label b i) m a = block-lines b a
-  term-lines (try b p c i) m a = block-lines b a ++ block-lines c a
-
-  pub cases-lines : Cases → Around → List Line
-  cases-lines knil a = []
-  cases-lines (kcons t b cs) a = opt-block-lines b a ++ cases-lines cs a
-
-  pub opt-block-lines : OptBlock → Around → List Line
-  opt-block-lines noBlock a = []
-  opt-block-lines (someBlock b) a = block-lines b a
-
-  pub block-lines : Block → Around → List Line
-  block-lines nil a = []
-  block-lines (cons s b) a = stmt-lines s a ++ block-lines b a
-
--- ---- the questions, of one statement
-
-abbrev pub all-below : List ℕ → ℕ → Bool
-all-below [] n = true
-all-below (x ∷ xs) n = ltb x n && all-below xs n
-
-abbrev pub places-below : List Place → ℕ → Bool
-places-below [] n = true
-places-below (p ∷ ps) n = ltb (p .identifier) n && places-below ps n
-
-abbrev pub ops-below : List Op → ℕ → Bool
-ops-below [] n = true
-ops-below (o ∷ os) n = places-below (o .written) n && (places-below (o .operands) n && ops-below os n)
-
--- identifiers and scopes in their tables, labels and targets below the counter of blocks
-abbrev pub in-range : Function → Line → Bool
-in-range F l =
-    places-below (l .places) (length (F .identifiers)) && (ops-below (l .ops) (length (F .identifiers))
-    && (all-below (l .labels) (F .counters .blocks) && all-below (l .scopes) (length (F .scopes))))
+-- ---- written places and operands as kinds ask
 
 abbrev pub among : ℕ → List ℕ → Bool
 among k [] = false
@@ -157,12 +84,119 @@ reads-well k n = cond (among k (0 ∷ 1 ∷ 4 ∷ 37 ∷ 38 ∷ [])) (eqb n 1) (
 
 abbrev pub in-shape : List Op → Bool
 in-shape [] = true
-in-shape (o ∷ os) = writes-well (o .kind) (length (o .written)) && (reads-well (o .kind) (length (o .operands)) && in-shape os)
+in-shape (o ∷ os) = (writes-well (o .kind) (length (o .written)) && reads-well (o .kind) (length (o .operands))) && in-shape os
 
--- none of the scopes xs is among those of earlier Scope blocks
-abbrev pub first-owned : List ℕ → List ℕ → Bool
-first-owned seen [] = true
-first-owned seen (x ∷ xs) = not (among x seen) && first-owned (x ∷ seen) xs
+-- ---- the operations of a statement's own
+
+-- those of a value, without those of a sequence's instructions, which are statements of their own
+abbrev pub val-ops : Val → List Op
+val-ops (operation o) = o ∷ []
+val-ops (logical o a b) = val-ops a ++ val-ops b
+val-ops (conditional c a b) = val-ops c ++ (val-ops a ++ val-ops b)
+val-ops (sequence is i v) = val-ops v
+val-ops (optional v o) = val-ops v
+
+abbrev pub opt-val-ops : OptVal → List Op
+opt-val-ops noVal = []
+opt-val-ops (someVal v) = val-ops v
+
+abbrev pub term-ops : Term → List Op
+term-ops (break l i k) = []
+term-ops (continue l i k) = []
+term-ops (return p i) = []
+term-ops (throw p i) = []
+term-ops (switch p cs i) = []
+term-ops (doWhile b v i) = val-ops v
+term-ops (while v b i) = val-ops v
+term-ops (for n v u b i) = val-ops n ++ (val-ops v ++ opt-val-ops u)
+term-ops (forOf n v b i s) = val-ops n ++ val-ops v
+term-ops (forIn v b i s) = val-ops v
+term-ops (if p b c i) = []
+term-ops (label b i) = []
+term-ops (try b p c i) = []
+
+-- ---- targets: what stands around a jump is without its own label
+
+abbrev pub term-aims : Term → Around → Bool
+term-aims (break l i k) a = hits (a .breaks) (a .labels) l k
+term-aims (continue l i k) a = hits (a .looped) (a .loops) l k
+term-aims (return p i) a = true
+term-aims (throw p i) a = true
+term-aims (switch p cs i) a = true
+term-aims (doWhile b v i) a = true
+term-aims (while v b i) a = true
+term-aims (for n v u b i) a = true
+term-aims (forOf n v b i s) a = true
+term-aims (forIn v b i s) a = true
+term-aims (if p b c i) a = true
+term-aims (label b i) a = true
+term-aims (try b p c i) a = true
+
+-- ---- a statement's answers, of what it has of its own, without what the statements inside it have
+
+abbrev pub instr-line : Bounds → Option Place → List Op → Line
+instr-line B l os = record { numbers = opt-place-in B l && ops-in B os; shapes = in-shape os; targets = true; owns = None }
+
+abbrev pub scope-line : Bounds → ℕ → Option ℕ → Line
+scope-line B x o = record { numbers = ltb x (B .scopes); shapes = true; targets = true; owns = o }
+
+abbrev pub term-line : Bounds → Term → Option ReactiveLabel → Around → Line
+term-line B t m a = record { numbers = label-in B m && (term-in B t && ops-in B (term-ops t)); shapes = in-shape (term-ops t); targets = term-aims t a; owns = None }
+
+-- the statements inside a value, in file order
+abbrev mutual
+  pub val-lines : Bounds → Val → List Line
+  val-lines B (operation o) = []
+  val-lines B (logical o a b) = val-lines B a ++ val-lines B b
+  val-lines B (conditional c a b) = val-lines B c ++ (val-lines B a ++ val-lines B b)
+  val-lines B (sequence is i v) = instrs-lines B is ++ val-lines B v
+  val-lines B (optional v o) = val-lines B v
+
+  pub instr-lines : Bounds → Instr → List Line
+  instr-lines B (instr i l v s) = instr-line B l (val-ops v) ∷ val-lines B v
+
+  pub instrs-lines : Bounds → Instrs → List Line
+  instrs-lines B inil = []
+  instrs-lines B (icons i is) = instr-lines B i ++ instrs-lines B is
+
+abbrev pub opt-val-lines : Bounds → OptVal → List Line
+opt-val-lines B noVal = []
+opt-val-lines B (someVal v) = val-lines B v
+
+-- the statements of a block and inside it, in file order, in their surroundings
+abbrev mutual
+  pub stmt-lines : Bounds → Stmt → Around → List Line
+  stmt-lines B (instruction i) a = instr-lines B i
+  stmt-lines B (scope x b) a = scope-line B x (Some x) ∷ block-lines B b a
+  stmt-lines B (pruned x b) a = scope-line B x None ∷ block-lines B b a
+  stmt-lines B (terminal t m) a = term-line B t m a ∷ term-lines B t (mark m) (labelled (mark-inside t m) a)
+
+  pub term-lines : Bounds → Term → Option ℕ → Around → List Line
+  term-lines B (break l i k) m a = []
+  term-lines B (continue l i k) m a = []
+  term-lines B (return p i) m a = []
+  term-lines B (throw p i) m a = []
+  term-lines B (switch p cs i) m a = cases-lines B cs (inSwitch a)
+  term-lines B (doWhile b v i) m a = block-lines B b (inLoop m a) ++ val-lines B v
+  term-lines B (while v b i) m a = val-lines B v ++ block-lines B b (inLoop m a)
+  term-lines B (for n v u b i) m a = val-lines B n ++ (val-lines B v ++ (opt-val-lines B u ++ block-lines B b (inLoop m a)))
+  term-lines B (forOf n v b i s) m a = val-lines B n ++ (val-lines B v ++ block-lines B b (inLoop m a))
+  term-lines B (forIn v b i s) m a = val-lines B v ++ block-lines B b (inLoop m a)
+  term-lines B (if p b c i) m a = block-lines B b a ++ opt-block-lines B c a
+  term-lines B (label b i) m a = block-lines B b a
+  term-lines B (try b p c i) m a = block-lines B b a ++ block-lines B c a
+
+  pub cases-lines : Bounds → Cases → Around → List Line
+  cases-lines B knil a = []
+  cases-lines B (kcons t b cs) a = opt-block-lines B b a ++ cases-lines B cs a
+
+  pub opt-block-lines : Bounds → OptBlock → Around → List Line
+  opt-block-lines B noBlock a = []
+  opt-block-lines B (someBlock b) a = block-lines B b a
+
+  pub block-lines : Bounds → Block → Around → List Line
+  block-lines B nil a = []
+  block-lines B (cons s b) a = stmt-lines B s a ++ block-lines B b a
 
 -- ---- the questions, of the tables
 
@@ -170,28 +204,23 @@ abbrev pub opt-below : Option ℕ → ℕ → Bool
 opt-below None n = true
 opt-below (Some x) n = ltb x n
 
-abbrev pub identifiers-in-range : Function → List Identifier → Bool
-identifiers-in-range F [] = true
-identifiers-in-range F (i ∷ is) =
-    ltb (i .declaration) (length (F .identifiers)) && (ltb (i .range) (F .counters .ranges) && (opt-below (i .scope) (length (F .scopes))
-    && (ltb (i .kind) (F .counters .types) && identifiers-in-range F is)))
+abbrev pub identifier-in : Bounds → Identifier → Bool
+identifier-in B i =
+    ltb (i .declaration) (B .identifiers) && (ltb (i .range) (B .ranges) && (opt-below (i .scope) (B .scopes) && ltb (i .kind) (B .types)))
 
-abbrev pub early-in-range : Function → Option ReactiveScopeEarlyReturn → Bool
-early-in-range F None = true
-early-in-range F (Some r) = ltb (r .value) (length (F .identifiers)) && ltb (r .label) (F .counters .blocks)
+abbrev pub early-in : Bounds → Option ReactiveScopeEarlyReturn → Bool
+early-in B None = true
+early-in B (Some r) = ltb (r .value) (B .identifiers) && ltb (r .label) (B .blocks)
 
-abbrev pub declarations-in-range : Function → List ReactiveScopeDeclaration → Bool
-declarations-in-range F [] = true
-declarations-in-range F (d ∷ ds) =
-    ltb (d .key) (length (F .identifiers)) && (ltb (d .identifier) (length (F .identifiers)) && (ltb (d .scope) (length (F .scopes)) && declarations-in-range F ds))
+abbrev pub declaration-in : Bounds → ReactiveScopeDeclaration → Bool
+declaration-in B d = ltb (d .key) (B .identifiers) && (ltb (d .identifier) (B .identifiers) && ltb (d .scope) (B .scopes))
 
-abbrev pub scopes-in-range : Function → List ScopeInfo → Bool
-scopes-in-range F [] = true
-scopes-in-range F (s ∷ ss) = early-in-range F (s .early) && (declarations-in-range F (s .declarations) && scopes-in-range F ss)
+abbrev pub scope-in : Bounds → ScopeInfo → Bool
+scope-in B s = early-in B (s .early) && every (declaration-in B) (s .declarations)
 
-abbrev pub no-records : List ScopeInfo → Bool
-no-records [] = true
-no-records (s ∷ ss) = elim (s .early) [ None ↦ no-records ss | Some r ↦ false ]
+abbrev pub unrecorded : Option ReactiveScopeEarlyReturn → Bool
+unrecorded None = true
+unrecorded (Some r) = false
 
 -- ---- the faulty places: 0 for the tables, ahead of the statements by their numbers
 
@@ -200,30 +229,35 @@ abbrev pub failing : (Line → Bool) → ℕ → List Line → List ℕ
 failing test n [] = []
 failing test n (l ∷ ls) = cond (test l) (failing test (suc n) ls) (n ∷ failing test (suc n) ls)
 
+-- is it no Scope block of one of the scopes that were seen?
+abbrev pub first-owned : List ℕ → Option ℕ → Bool
+first-owned seen None = true
+first-owned seen (Some x) = not (among x seen)
+
 -- of a scope's Scope blocks all but the first are faulty
 abbrev pub repeating : List ℕ → ℕ → List Line → List ℕ
 repeating seen n [] = []
-repeating seen n (l ∷ ls) = cond (first-owned seen (l .owns)) (repeating (l .owns ++ seen) (suc n) ls) (n ∷ repeating (l .owns ++ seen) (suc n) ls)
+repeating seen n (l ∷ ls) = cond (first-owned seen (l .owns)) (repeating (plus (l .owns) seen) (suc n) ls) (n ∷ repeating (plus (l .owns) seen) (suc n) ls)
 
 abbrev pub table-fault : Bool → List ℕ
 table-fault true = []
 table-fault false = 0 ∷ []
 
 abbrev pub lines : Function → List Line
-lines F = block-lines (F .body) nowhere
+lines F = block-lines (bounds-of F) (F .body) nowhere
 
 -- are identifiers, declarations and scopes in their tables, and types, ranges, labels and targets below their counters?
 unfoldable pub out-of-range : Function → List ℕ
-out-of-range F = table-fault (identifiers-in-range F (F .identifiers) && scopes-in-range F (F .scopes)) ++ failing (in-range F) 0 (lines F)
+out-of-range F = table-fault (every (identifier-in (bounds-of F)) (F .identifiers) && every (scope-in (bounds-of F)) (F .scopes)) ++ failing (λ l. l .numbers) 0 (lines F)
 
 -- has every operation the written places and the operands that its kind asks?
 unfoldable pub out-of-shape : Function → List ℕ
-out-of-shape F = failing (λ l. in-shape (l .ops)) 0 (lines F)
+out-of-shape F = failing (λ l. l .shapes) 0 (lines F)
 
 -- has every labeled or unlabeled Break and Continue its target around it?
 unfoldable pub without-target : Function → List ℕ
-without-target F = failing (λ l. l .aims) 0 (lines F)
+without-target F = failing (λ l. l .targets) 0 (lines F)
 
 -- has every scope no record and at most one Scope block?
 unfoldable pub scoped-twice : Function → List ℕ
-scoped-twice F = table-fault (no-records (F .scopes)) ++ repeating [] 0 (lines F)
+scoped-twice F = table-fault (every (λ s. unrecorded (s .early)) (F .scopes)) ++ repeating [] 0 (lines F)

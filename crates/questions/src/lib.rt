@@ -1,1 +1,4 @@
 // Whether the function that tables hold has its numbers in range, its operations in shape, its targets and its scopes.
+pub mod line;
+pub mod operations;
+pub mod values;
