@@ -15,7 +15,8 @@ use Rattle.semantics.specs.Exec.{records-of}
 use Rattle.semantics.specs.Targets.{has}
 use Rattle.simulation.specs.WellFormed.{Sizes, sizes, OkS, OkT, OkK, OkO, OkB, scopesS, scopesT, scopesK, scopesO, scopesB, Distinct, WellFormed}
 use Rattle.early_returns.specs.Lowering.{Env, start, or-else, unless-recorded, firstS, firstT, firstK, firstO, firstB, change, with-record, lowScope, afterScope, afterS, afterT, afterK, afterO, afterB, lowS, lowT, lowK, lowO, lowB, lowered}
-use Rattle.early_returns.proofs.Frame.{has-left, has-right, distinct-left, distinct-right, apart, apart-back, frameS, frameB, frameO, frameK}
+use Rattle.simulation.proofs.Lists.{distinct-left, distinct-right}
+use Rattle.early_returns.proofs.Frame.{has-left, has-right, apart, apart-back, frameS, frameB, frameO, frameK}
 
 -- ---- the table keeps its length, and a scope of it that was recorded has its record
 change-length : {A : Type 0} (xs : List A) (x : ℕ) (f : A → A) → length (change xs x f) ≡ length xs

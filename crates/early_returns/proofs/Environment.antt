@@ -44,12 +44,13 @@ module _ (v l span : ℕ) (b : Block) where
   abbrev whole : Env → Block × Env
   whole r = opens r (make r) (make (make r)) (make (make (make r))) (make (make (make (make r))))
 
-  four : (r s y f a : Env) → make r ≡ s → make s ≡ y → make y ≡ f → make f ≡ a → whole r ≡ opens r s y f a
-  four r s y f a p q u w =
+  four : (r s y f a : Env) (i j k h : ℕ) → make r ≡ s → make s ≡ y → make y ≡ f → make f ≡ a → ids r ≡ i → ids s ≡ j → ids y ≡ k → ids f ≡ h → whole r ≡ (opening v i j k h l span b, a)
+  four r s y f a i j k h p q u w ei ej ek eh =
       ap (λ s. opens r s (make s) (make (make s)) (make (make (make s)))) p
       ∙ ap (λ y. opens r s y (make y) (make (make y))) q
       ∙ ap (λ f. opens r s y f (make f)) u
       ∙ ap (λ a. opens r s y f a) w
+      ∙ rw (ei, ej, ek, eh)
 
 -- the environment at an outermost scope's end: its first open return took the first of the five
 abbrev pub taken : ℕ → Env → EarlyReturnInfo × Env
@@ -75,5 +76,5 @@ apply-five x span b e =
     let g₃ : Env = grown l (t + 4) (r + 4) xs y₃ ss in
     let g₄ : Env = grown l (t + 5) (r + 5) xs y₄ ss in
     ap (λ (is : List Identifier). whole n (blocks e) span b (record { counters = record { blocks = l; types = t + 1; ranges = r + 1 }; identifiers = is; scopes = ss })) (change-last xs (fresh n None t r span) promoted)
-    ∙ four n (blocks e) span b g₀ g₁ g₂ g₃ g₄ (grows l t r 1 xs ys ss span refl) (grows l t r 2 xs y₁ ss span refl) (grows l t r 3 xs y₂ ss span refl) (grows l t r 4 xs y₃ ss span refl)
-    ∙ rw (length-append xs ys, length-append xs y₁, length-append xs y₂, length-append xs y₃)
+    ∙ four n (blocks e) span b g₀ g₁ g₂ g₃ g₄ (n + 1) (n + 2) (n + 3) (n + 4) (grows l t r 1 xs ys ss span refl) (grows l t r 2 xs y₁ ss span refl) (grows l t r 3 xs y₂ ss span refl) (grows l t r 4 xs y₃ ss span refl)
+      (length-append xs ys) (length-append xs y₁) (length-append xs y₂) (length-append xs y₃)

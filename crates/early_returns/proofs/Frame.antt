@@ -13,6 +13,7 @@ use Rattle.hir.specs.declared.environment.ReactiveScopeEarlyReturn.{ReactiveSco
 use Rattle.hir.specs.Tree.{Stmt, instruction, scope, pruned, terminal, Term, break, continue, return, throw, switch, doWhile, while, for, forOf, forIn, if, label, try, Cases, knil, kcons, OptBlock, noBlock, someBlock, Block, nil, cons, ScopeInfo}
 use Rattle.semantics.specs.Exec.{records-of}
 use Rattle.semantics.specs.Targets.{has}
+use Rattle.simulation.proofs.Lists.{hasnt-left, hasnt-right}
 use Rattle.simulation.specs.WellFormed.{scopesS, scopesT, scopesK, scopesO, scopesB, Distinct}
 use Rattle.early_returns.specs.Lowering.{Env, unless-recorded, firstB, change, with-record, afterScope, afterS, afterT, afterK, afterO, afterB}
 
@@ -40,21 +41,6 @@ pub has-right : (y : ℕ) (xs ys : List ℕ) → has y ys ≡ true → has y (xs
 has-right y [] ys e = e
 has-right y (x ∷ xs) ys e = rw (has-right y xs ys e) (or-right (eqb y x))
 
-pub has-neither : (y : ℕ) (xs ys : List ℕ) → has y (xs ++ ys) ≡ false → (has y xs ≡ false) × (has y ys ≡ false)
-has-neither y [] ys e = (refl, e)
-has-neither y (x ∷ xs) ys e =
-    let p = or-false (eqb y x) _ e in
-    let q = has-neither y xs ys (p .1) in
-    (rw (p .0) (q .0), q .1)
-
-pub distinct-left : (xs ys : List ℕ) → Distinct (xs ++ ys) → Distinct xs
-distinct-left [] ys d = tt
-distinct-left (x ∷ xs) ys d = (has-neither x xs ys (d .0) .0, distinct-left xs ys (d .1))
-
-pub distinct-right : (xs ys : List ℕ) → Distinct (xs ++ ys) → Distinct ys
-distinct-right [] ys d = d
-distinct-right (x ∷ xs) ys d = distinct-right xs ys (d .1)
-
 -- what is in the second of them is not in the first
 pub apart : (xs ys : List ℕ) → Distinct (xs ++ ys) → (y : ℕ) → has y ys ≡ true → has y xs ≡ false
 apart [] ys d y h = refl
@@ -64,7 +50,7 @@ apart (x ∷ xs) ys d y h = go (eqb y x) refl (apart xs ys (d .1) y h)
     go true e k =
         let q : y ≡ x = eqb-true y x e in
         let z : has x ys ≡ true = rw q at h in
-        not-both (sym z ∙ has-neither x xs ys (d .0) .1)
+        not-both (sym z ∙ hasnt-right x xs ys (d .0))
     go false e k = rw e k
 
 pub apart-back : (xs ys : List ℕ) → Distinct (xs ++ ys) → (y : ℕ) → has y xs ≡ true → has y ys ≡ false
@@ -106,13 +92,13 @@ module _ (rec : ℕ → Option ℕ) where
     frameT (for a v u b i) e y h = frameB b e y h
     frameT (forOf a v b i n) e y h = frameB b e y h
     frameT (forIn v b i n) e y h = frameB b e y h
-    frameT (if p b c i) e y h = let q = has-neither y (scopesB b) (scopesO c) h in frameO c _ y (q .1) ∙ frameB b e y (q .0)
+    frameT (if p b c i) e y h = frameO c _ y (hasnt-right y (scopesB b) (scopesO c) h) ∙ frameB b e y (hasnt-left y (scopesB b) (scopesO c) h)
     frameT (label b i) e y h = frameB b e y h
-    frameT (try b p c i) e y h = let q = has-neither y (scopesB b) (scopesB c) h in frameB c _ y (q .1) ∙ frameB b e y (q .0)
+    frameT (try b p c i) e y h = frameB c _ y (hasnt-right y (scopesB b) (scopesB c) h) ∙ frameB b e y (hasnt-left y (scopesB b) (scopesB c) h)
 
     pub frameK : (cs : Cases) (e : Env) (y : ℕ) → has y (scopesK cs) ≡ false → records-of (afterK rec cs e .scopes) y ≡ records-of (e .scopes) y
     frameK knil e y h = refl
-    frameK (kcons t b cs) e y h = let q = has-neither y (scopesO b) (scopesK cs) h in frameK cs _ y (q .1) ∙ frameO b e y (q .0)
+    frameK (kcons t b cs) e y h = frameK cs _ y (hasnt-right y (scopesO b) (scopesK cs) h) ∙ frameO b e y (hasnt-left y (scopesO b) (scopesK cs) h)
 
     pub frameO : (b : OptBlock) (e : Env) (y : ℕ) → has y (scopesO b) ≡ false → records-of (afterO rec b e .scopes) y ≡ records-of (e .scopes) y
     frameO noBlock e y h = refl
@@ -120,4 +106,4 @@ module _ (rec : ℕ → Option ℕ) where
 
     pub frameB : (b : Block) (e : Env) (y : ℕ) → has y (scopesB b) ≡ false → records-of (afterB rec b e .scopes) y ≡ records-of (e .scopes) y
     frameB nil e y h = refl
-    frameB (cons x b) e y h = let q = has-neither y (scopesS x) (scopesB b) h in frameB b _ y (q .1) ∙ frameS x e y (q .0)
+    frameB (cons x b) e y h = frameB b _ y (hasnt-right y (scopesS x) (scopesB b) h) ∙ frameS x e y (hasnt-left y (scopesS x) (scopesB b) h)

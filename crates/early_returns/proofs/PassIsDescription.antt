@@ -17,7 +17,8 @@ use Rattle.simulation.specs.WellFormed.{scopesS, scopesT, scopesK, scopesO, sco
 use Rattle.early_returns.specs.Lowering.{Env, start, with-body, ids, blocks, or-else, unless-recorded, keep-recorded, firstS, firstT, firstK, firstO, firstB, openS, openT, openK, openO, openB, lowScope, afterScope, afterS, afterT, afterK, afterO, afterB, lowS, lowT, lowK, lowO, lowB, lowered}
 use Rattle.early_returns.specs.Pass.{EarlyReturnInfo, State, early-return, apply-early-return, inner, leave-scope, exit-early, append, walkS, walkT, walkK, walkO, walkB, propagate-early-returns}
 use Rattle.early_returns.proofs.Environment.{apply-five}
-use Rattle.early_returns.proofs.Frame.{not-both, has-left, has-right, distinct-left, distinct-right, apart, frameS, frameB, frameO, frameT, frameK}
+use Rattle.simulation.proofs.Lists.{distinct-left, distinct-right}
+use Rattle.early_returns.proofs.Frame.{not-both, has-left, has-right, apart, frameS, frameB, frameO, frameT, frameK}
 
 -- ---- the state after a part inside a scope, by the span of its first open return
 abbrev earlyAfter : Option ℕ → Option EarlyReturnInfo → Env → Option EarlyReturnInfo

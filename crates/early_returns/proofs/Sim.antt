@@ -23,7 +23,8 @@ use Rattle.simulation.proofs.Cong.{Runs, SRel, TRel, KRel, ORel, BRel, nil-rel,
 use Rattle.simulation.proofs.Identity.{SameRecord, Agree, sameS, sameB}
 use Rattle.early_returns.specs.Statements.{leaving}
 use Rattle.early_returns.specs.Lowering.{Env, ids, blocks, unless-recorded, keep-recorded, firstB, openS, openT, openK, openO, openB, afterScope, afterS, afterT, afterK, afterO, afterB, lowScope, lowS, lowT, lowK, lowO, lowB}
-use Rattle.early_returns.proofs.Frame.{not-both, has-left, has-right, distinct-left, distinct-right, apart, apart-back, record-other, frameS, frameK, frameO, frameB}
+use Rattle.simulation.proofs.Lists.{distinct-left, distinct-right}
+use Rattle.early_returns.proofs.Frame.{not-both, has-left, has-right, apart, apart-back, record-other, frameS, frameK, frameO, frameB}
 use Rattle.early_returns.proofs.Again.{record-same}
 use Rattle.early_returns.proofs.Growth.{Grown, growS, growK, growO, growB, five-more}
 use Rattle.early_returns.proofs.Inside.{Numbers, inside, around, runs-inside, runs-around, open-return, lowered-scope}
