@@ -19,7 +19,7 @@ use Rattle.simulation.proofs.Lists.{distinct-left, distinct-right}
 use Rattle.early_returns.proofs.Frame.{has-left, has-right, apart, apart-back, frameS, frameB, frameO, frameK}
 
 -- ---- the table keeps its length, and a scope of it that was recorded has its record
-change-length : {A : Type 0} (xs : List A) (x : ℕ) (f : A → A) → length (change xs x f) ≡ length xs
+pub change-length : {A : Type 0} (xs : List A) (x : ℕ) (f : A → A) → length (change xs x f) ≡ length xs
 unfolding change
 change-length [] x f = refl
 change-length (a ∷ xs) zero f = refl

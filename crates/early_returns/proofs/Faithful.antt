@@ -1,22 +1,20 @@
 -- Lowering is faithful: the lowered function is well-formed and simulates the function.
 -- Its records are followed from the table at the start to the table in the end.
-use mathlib.Core.Path.{_≡_, refl, sym}
-use Prim.Native.Nat.{ℕ, _≤_}
+use mathlib.Core.Path.{_≡_, refl}
+use Prim.Native.Nat.{ℕ}
 use native.Mathlib.Omega.{arith}
-use lib.ListN.{length}
 use Rattle.std.specs.declared.option.Option.{Option}
-use Rattle.std.specs.declared.option.Option.the-variants.{Some, None}
-use Rattle.hir.specs.Tree.{Block, Function}
+use Rattle.hir.specs.Tree.{Function}
 use Rattle.semantics.specs.Exec.{records-of}
 use Rattle.semantics.specs.Targets.{nowhere}
 use Rattle.simulation.specs.WellFormed.{sizes, WellFormed}
-use Rattle.simulation.specs.Faithful.{Simulates, Kept, Faithful}
+use Rattle.simulation.specs.Faithful.{Simulates, Kept}
 use Rattle.simulation.proofs.Simulate.{places, simulates}
-use Rattle.early_returns.specs.Lowering.{Env, ids, blocks, start, with-body, afterB, lowB, lowered}
-use Rattle.early_returns.specs.Faithful.{lowering, Lowers, LoweringFaithful}
+use Rattle.early_returns.specs.Lowering.{Env, ids, blocks, start, afterB, lowered}
+use Rattle.early_returns.specs.Faithful.{LoweringFaithful}
 use Rattle.early_returns.proofs.Growth.{Grown, growB}
-use Rattle.early_returns.proofs.Sim.{Fits, outB}
-use Rattle.early_returns.proofs.KeepsBody.{Under, lowB-ok}
+use Rattle.early_returns.proofs.Sim.{outB}
+use Rattle.early_returns.proofs.KeepsBody.{lowB-ok}
 use Rattle.early_returns.proofs.KeepsTables.{TablesOk, tables-ok, grown-larger}
 use Rattle.early_returns.proofs.KeepsScopes.{lowB-scopes}
 use Rattle.early_returns.proofs.KeepsJumps.{lowB-lands}

@@ -1,15 +1,15 @@
 -- What holds of the environment through the treatment of each scope holds through a part of the tree.
 -- So numbers only grow, and the table of scopes keeps its length.
-use mathlib.Core.Path.{_≡_, refl, sym, _∙_, ap}
-use mathlib.Core.List.{List, [], _∷_, _++_}
-use Prim.Native.Nat.{ℕ, zero, suc, _+_, _≤_, _<_}
+use mathlib.Core.Path.{_≡_, refl, _∙_}
+use Prim.Native.Nat.{ℕ, _+_, _≤_, _<_}
 use native.Mathlib.Omega.{arith}
 use lib.ListN.{length, length-append}
 use Rattle.std.specs.declared.option.Option.{Option}
 use Rattle.std.specs.declared.option.Option.the-variants.{Some, None}
 use Rattle.hir.specs.Tree.{Stmt, instruction, scope, pruned, terminal, Term, break, continue, return, throw, switch, doWhile, while, for, forOf, forIn, if, label, try, Cases, knil, kcons, OptBlock, noBlock, someBlock, Block, nil, cons}
 use Rattle.simulation.specs.WellFormed.{Sizes, OkS, OkT, OkK, OkO, OkB}
-use Rattle.early_returns.specs.Lowering.{Env, ids, blocks, five, unless-recorded, firstB, change, afterScope, afterS, afterT, afterK, afterO, afterB}
+use Rattle.early_returns.specs.Lowering.{Env, ids, blocks, five, unless-recorded, firstB, afterScope, afterS, afterT, afterK, afterO, afterB}
+use Rattle.early_returns.proofs.Again.{change-length}
 
 module _ (rec : ℕ → Option ℕ) (Z : Sizes) (I : Env → Type 0) (step : (o : Option ℕ) (x : ℕ) (e : Env) → x < Z .scopes → I e → I (afterScope o x e)) where
   mutual
@@ -45,12 +45,6 @@ module _ (rec : ℕ → Option ℕ) (Z : Sizes) (I : Env → Type 0) (step : (o 
     pub throughB : (b : Block) (e : Env) → OkB Z b → I e → I (afterB rec b e)
     throughB nil e w h = h
     throughB (cons x b) e w h = throughB b _ (w .1) (throughS x e (w .0) h)
-
-pub change-length : {A : Type 0} (xs : List A) (x : ℕ) (f : A → A) → length (change xs x f) ≡ length xs
-unfolding change
-change-length [] x f = refl
-change-length (a ∷ xs) zero f = refl
-change-length (a ∷ xs) (suc x) f = ap suc (change-length xs x f)
 
 -- the numbers of e are at most those of f
 pub record Grown (e f : Env) : Type 0 where

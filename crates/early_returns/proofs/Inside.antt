@@ -1,10 +1,15 @@
--- Inside a lowered scope the second store holds 1 at n until an open return; where the first returns v by an open return, the second breaks to lab with v at n.
--- At the scope's end the record turns that break into the return.
+-- Inside a lowered scope, and at its end, where the record turns the break that stands for an open return into the return.
+--   first                             second
+--   values below N                    the same, and 1 at n
+--   normal, break, continue, throw    the same
+--   return v by an open return        break to lab, with v at n, and one bare step in advance
+--   return v by a recorded scope      the same
+--   return 1                          anything
 use mathlib.Core.Path.{_≡_, refl, sym, _∙_, ap}
 use mathlib.Core.Bool.{Bool, true, false}
 use mathlib.Core.Logic.{_⊎_, inl, inr}
 use mathlib.Core.List.{List}
-use Prim.Native.Nat.{ℕ, suc, _+_, _*_, _≤_, _<_}
+use Prim.Native.Nat.{ℕ, _+_, _≤_, _<_}
 use native.Mathlib.Omega.{arith}
 use lib.Dec.{eqb}
 use lib.ListN.{length}
@@ -15,16 +20,16 @@ use Rattle.hir.specs.declared.place.Place.{Place}
 use Rattle.hir.specs.declared.place.Effect.the-variants.{Capture}
 use Rattle.hir.specs.declared.terminal.ReactiveLabel.{ReactiveLabel}
 use Rattle.hir.specs.declared.terminal.ReactiveTerminalTargetKind.the-variants.{Labeled}
-use Rattle.hir.specs.Tree.{Stmt, scope, terminal, return, break, Block, cons}
-use Rattle.semantics.specs.Machine.{Meaning, look, put, State, Out, normal, broke, continued, returned, threw, Result, done, spent, stepped, entered, recorded, branch, bind, mapOut, enter, leave, tick}
+use Rattle.hir.specs.Tree.{scope, terminal, return, break, Block, cons}
+use Rattle.semantics.specs.Machine.{Meaning, look, put, State, normal, broke, continued, returned, threw, Result, done, spent, stepped, entered, recorded, branch, bind, mapOut, enter, leave, tick}
 use Rattle.semantics.specs.Exec.{endLabel, runS, runB, always}
 use Rattle.simulation.specs.WellFormed.{Sizes, PlaceOk}
 use Rattle.simulation.proofs.Stores.{look-here, look-there, length-put}
-use Rattle.simulation.proofs.Rel.{Near, Setting, Beside, Rel, Same, Opened, Below, OkOut, same-rel}
+use Rattle.simulation.proofs.Rel.{Near, Setting, Beside, Rel, Same, Opened, Below, same-rel}
 use Rattle.simulation.proofs.Simulate.{outside}
 use Rattle.simulation.proofs.Cong.{Runs, SRel, BRel}
 use Rattle.early_returns.specs.Statements.{reactive-place, stores, opening, leaving}
-use Rattle.early_returns.proofs.Opening.{store₅, opened, answered, opened-long, opened-below, opened-unset, opening-runs, store-runs, run-cons}
+use Rattle.early_returns.proofs.Opening.{opened, answered, opened-long, opened-below, opened-unset, opening-runs, store-runs, run-cons}
 
 -- Z: the first function's sizes. long: the second's identifiers. n, lab: the scope's place and label. top: the second's labels
 pub record Numbers : Type 0 where

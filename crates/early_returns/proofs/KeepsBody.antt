@@ -1,24 +1,18 @@
 -- The numbers of the lowered body are in range, and its places as their kinds ask.
 -- Z: the sizes before lowering, Z′: those after it.
-use mathlib.Core.Path.{_≡_, refl, sym, _∙_, ap}
-use mathlib.Core.List.{List, [], _∷_, _++_}
-use Prim.Native.Nat.{ℕ, zero, suc, _+_, _≤_, _<_}
+use mathlib.Core.Path.{refl}
+use Prim.Native.Nat.{ℕ, _+_, _≤_, _<_}
 use native.Mathlib.Omega.{arith}
-use lib.ListN.{length}
 use Rattle.std.specs.declared.option.Option.{Option}
 use Rattle.std.specs.declared.option.Option.the-variants.{Some, None}
 use Rattle.hir.specs.declared.place.Place.{Place}
 use Rattle.hir.specs.declared.terminal.ReactiveLabel.{ReactiveLabel}
-use Rattle.hir.specs.declared.environment.Identifier.{Identifier}
-use Rattle.hir.specs.declared.environment.ReactiveScopeEarlyReturn.{ReactiveScopeEarlyReturn}
-use Rattle.hir.specs.declared.environment.ReactiveScopeDeclaration.{ReactiveScopeDeclaration}
-use Rattle.hir.specs.Tree.{Stmt, instruction, scope, pruned, terminal, Term, break, continue, return, throw, switch, doWhile, while, for, forOf, forIn, if, label, try, Cases, knil, kcons, OptBlock, noBlock, someBlock, Block, nil, cons, ScopeInfo}
-use Rattle.simulation.specs.WellFormed.{All, IfSome, Sizes, writes, reads, IdentifierOk, RecordOk, DeclarationOk, ScopeOk, PlaceOk, LabelOk, OpOk, OkV, OkI, OkS, OkT, OkK, OkO, OkB}
-use Rattle.simulation.proofs.Lists.{all-map, all-both}
-use Rattle.simulation.proofs.Larger.{Larger, more-identifier, more-scope, more-place, more-target, more-label, moreV, moreI, moreU, moreS, moreB}
+use Rattle.hir.specs.Tree.{Stmt, instruction, scope, pruned, terminal, Term, break, continue, return, throw, switch, doWhile, while, for, forOf, forIn, if, label, try, Cases, knil, kcons, OptBlock, noBlock, someBlock, Block, nil, cons}
+use Rattle.simulation.specs.WellFormed.{IfSome, Sizes, writes, reads, PlaceOk, LabelOk, OkS, OkT, OkK, OkO, OkB}
+use Rattle.simulation.proofs.Larger.{Larger, more-place, more-target, more-label, moreV, moreI, moreU, moreS, moreB}
 use Rattle.early_returns.specs.Statements.{opening, leaving}
-use Rattle.early_returns.specs.Lowering.{Env, ids, blocks, fresh, five, change, with-record, unless-recorded, keep-recorded, firstB, openS, openT, openK, openO, openB, afterScope, afterS, afterT, afterK, afterO, afterB, lowScope, lowS, lowT, lowK, lowO, lowB}
-use Rattle.early_returns.proofs.Growth.{Grown, growS, growK, growO, growB, five-more, change-length, throughB}
+use Rattle.early_returns.specs.Lowering.{Env, ids, blocks, unless-recorded, keep-recorded, firstB, openS, openT, openK, openO, openB, afterScope, afterS, afterT, afterK, afterO, afterB, lowScope, lowS, lowT, lowK, lowO, lowB}
+use Rattle.early_returns.proofs.Growth.{Grown, growK, growO, growB, five-more}
 
 module _ (Z Z′ : Sizes) (m : Larger Z Z′) (rec : ℕ → Option ℕ) where
   -- ---- open returns replaced

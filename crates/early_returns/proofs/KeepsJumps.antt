@@ -3,7 +3,7 @@
 use mathlib.Core.Path.{_≡_, refl}
 use mathlib.Core.Bool.{Bool, true, false, _||_}
 use mathlib.Core.List.{List, [], _∷_}
-use Prim.Native.Nat.{ℕ, _+_}
+use Prim.Native.Nat.{ℕ}
 use lib.Dec.{eqb}
 use borrow.Author.Tests.{eq-eqb}
 use Rattle.std.specs.declared.option.Option.{Option}
@@ -13,19 +13,19 @@ use Rattle.hir.specs.declared.terminal.ReactiveTerminalTargetKind.{ReactiveTerm
 use Rattle.hir.specs.declared.terminal.ReactiveTerminalTargetKind.the-variants.{Implicit, Labeled, Unlabeled}
 use Rattle.hir.specs.Tree.{Stmt, instruction, scope, pruned, terminal, Term, break, continue, return, throw, switch, doWhile, while, for, forOf, forIn, if, label, try, Cases, knil, kcons, OptBlock, noBlock, someBlock, Block, nil, cons}
 use Rattle.semantics.specs.Targets.{mark, mark-inside, Around, has, plus, labelled, inSwitch, inLoop, hits, TgS, TgT, TgK, TgO, TgB}
-use Rattle.early_returns.specs.Lowering.{Env, ids, blocks, unless-recorded, keep-recorded, firstB, openS, openT, openK, openO, openB, lowScope, lowS, lowT, lowK, lowO, lowB, afterS, afterB, afterO}
+use Rattle.early_returns.specs.Lowering.{Env, ids, blocks, unless-recorded, keep-recorded, firstB, openS, openT, openK, openO, openB, lowScope, lowS, lowT, lowK, lowO, lowB, afterS, afterO}
 use Rattle.early_returns.proofs.Frame.{has-right}
 
 -- ---- more around
 abbrev Carries : List ℕ → List ℕ → Type 0
 Carries ls ls′ = (k : ℕ) → has k ls ≡ true → has k ls′ ≡ true
 
-pub record Wider (l : ℕ) (a a′ : Around) : Type 0 where
-  pub labels : Carries (a .labels) (a′ .labels)
-  pub loops : Carries (a .loops) (a′ .loops)
-  pub looped : a .looped ≡ true → a′ .looped ≡ true
-  pub breaks : a .breaks ≡ true → a′ .breaks ≡ true
-  pub target : has l (a′ .labels) ≡ true
+record Wider (l : ℕ) (a a′ : Around) : Type 0 where
+  labels : Carries (a .labels) (a′ .labels)
+  loops : Carries (a .loops) (a′ .loops)
+  looped : a .looped ≡ true → a′ .looped ≡ true
+  breaks : a .breaks ≡ true → a′ .breaks ≡ true
+  target : has l (a′ .labels) ≡ true
 
 or-keeps : (a b c : Bool) → (b ≡ true → c ≡ true) → (a || b) ≡ true → (a || c) ≡ true
 or-keeps true b c f e = refl

@@ -1,8 +1,8 @@
 -- Lowering leaves the Scope blocks as they are, in their order.
 -- So no scope has two of them if none had.
-use mathlib.Core.Path.{_≡_, refl, sym, _∙_, ap}
+use mathlib.Core.Path.{_≡_, refl, _∙_, ap}
 use mathlib.Core.List.{List, [], _∷_, _++_}
-use Prim.Native.Nat.{ℕ, _+_}
+use Prim.Native.Nat.{ℕ}
 use Rattle.std.specs.declared.option.Option.{Option}
 use Rattle.std.specs.declared.option.Option.the-variants.{Some, None}
 use Rattle.hir.specs.declared.terminal.ReactiveLabel.{ReactiveLabel}

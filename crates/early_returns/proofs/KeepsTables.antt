@@ -1,7 +1,7 @@
 -- The lowered function's identifiers and scopes are in range: each treated scope adds five identifiers, a record and a declaration.
 -- The tables are held to the numbers that there are so far.
-use mathlib.Core.Path.{_≡_, refl, sym, _∙_}
-use mathlib.Core.List.{List, [], _∷_, _++_}
+use mathlib.Core.Path.{_≡_, _∙_}
+use mathlib.Core.List.{List, [], _∷_}
 use Prim.Native.Nat.{ℕ, zero, suc, _+_, _≤_, _<_}
 use native.Mathlib.Omega.{arith}
 use lib.ListN.{length}
@@ -13,7 +13,8 @@ use Rattle.simulation.specs.WellFormed.{All, Sizes, IdentifierOk, DeclarationOk
 use Rattle.simulation.proofs.Lists.{all-map, all-both}
 use Rattle.simulation.proofs.Larger.{Larger, more-identifier, more-scope}
 use Rattle.early_returns.specs.Lowering.{Env, ids, blocks, five, change, with-record, afterScope, afterB}
-use Rattle.early_returns.proofs.Growth.{Grown, five-more, change-length, throughB}
+use Rattle.early_returns.proofs.Growth.{Grown, five-more, throughB}
+use Rattle.early_returns.proofs.Again.{change-length}
 
 abbrev pub env-sizes : Env → Sizes
 env-sizes e = record { identifiers = ids e; scopes = length (e .scopes); blocks = blocks e; types = e .counters .types; ranges = e .counters .ranges }

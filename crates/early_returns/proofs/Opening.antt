@@ -1,13 +1,13 @@
 -- The opening of a lowered scope, run: its five instructions leave the sentinel 1 at the scope's place n.
 -- Every host answers the four questions alike and stays as it is.
-use mathlib.Core.Path.{_≡_, refl, sym, _∙_, ap}
+use mathlib.Core.Path.{_≡_, refl, _∙_}
 use mathlib.Core.Bool.{false}
 use mathlib.Core.List.{List, [], _∷_}
-use Prim.Native.Nat.{ℕ, zero, suc, _+_, _*_, _≤_, _<_}
+use Prim.Native.Nat.{ℕ, suc, _+_, _≤_, _<_}
 use native.Mathlib.Omega.{arith}
 use lib.ListN.{length}
 use Rattle.std.specs.declared.option.Option.{Option}
-use Rattle.std.specs.declared.option.Option.the-variants.{Some, None}
+use Rattle.std.specs.declared.option.Option.the-variants.{Some}
 use Rattle.hir.specs.declared.place.Place.{Place}
 use Rattle.hir.specs.declared.place.Effect.the-variants.{ConditionallyMutate}
 use Rattle.hir.specs.Tree.{Stmt, terminal, label, Block, nil, cons}

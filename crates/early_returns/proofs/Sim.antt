@@ -1,11 +1,10 @@
 -- The lowered tree runs as the tree does: open returns replaced inside a scope, and the outermost scopes treated one after the other.
 -- The records of a scope are followed from the table before its part to the table after it.
-use mathlib.Core.Path.{_≡_, refl, sym, _∙_, ap}
-use mathlib.Core.Bool.{Bool, true, false, _||_}
+use mathlib.Core.Path.{_≡_, refl, sym, _∙_}
+use mathlib.Core.Bool.{true, false}
 use mathlib.Core.List.{List, [], _∷_, _++_}
-use Prim.Native.Nat.{ℕ, zero, suc, _+_, _≤_, _<_}
+use Prim.Native.Nat.{ℕ, _≤_}
 use native.Mathlib.Omega.{arith}
-use lib.Dec.{eqb}
 use lib.ListN.{length}
 use borrow.Author.Tests.{eq-eqb}
 use Rattle.std.specs.declared.option.Option.{Option}
@@ -17,17 +16,16 @@ use Rattle.semantics.specs.Exec.{records-of}
 use Rattle.semantics.specs.Targets.{has}
 use Rattle.simulation.specs.WellFormed.{All, IfSome, Sizes, LabelOk, OkS, OkT, OkK, OkO, OkB, scopesS, scopesT, scopesK, scopesO, scopesB, Distinct}
 use Rattle.simulation.proofs.Lists.{all-left, all-right}
-use Rattle.simulation.proofs.Rel.{Setting, Below}
+use Rattle.simulation.proofs.Rel.{Below}
 use Rattle.simulation.proofs.Simulate.{outside}
 use Rattle.simulation.proofs.Cong.{Runs, SRel, TRel, KRel, ORel, BRel, nil-rel, cons-rel, no-rel, some-rel, instruction-rel, scope-rel, pruned-rel, terminal-rel, break-rel, continue-rel, return-rel, throw-rel, switch-rel, doWhile-rel, while-rel, for-rel, forOf-rel, forIn-rel, if-rel, label-rel, try-rel, knil-rel, kcons-rel}
 use Rattle.simulation.proofs.Identity.{SameRecord, Agree, sameS, sameB}
-use Rattle.early_returns.specs.Statements.{leaving}
 use Rattle.early_returns.specs.Lowering.{Env, ids, blocks, unless-recorded, keep-recorded, firstB, openS, openT, openK, openO, openB, afterScope, afterS, afterT, afterK, afterO, afterB, lowScope, lowS, lowT, lowK, lowO, lowB}
 use Rattle.simulation.proofs.Lists.{distinct-left, distinct-right}
 use Rattle.early_returns.proofs.Frame.{not-both, has-left, has-right, apart, apart-back, record-other, frameS, frameK, frameO, frameB}
 use Rattle.early_returns.proofs.Again.{record-same}
 use Rattle.early_returns.proofs.Growth.{Grown, growS, growK, growO, growB, five-more}
-use Rattle.early_returns.proofs.Inside.{Numbers, inside, around, runs-inside, runs-around, open-return, lowered-scope}
+use Rattle.early_returns.proofs.Inside.{Numbers, runs-inside, open-return, lowered-scope}
 
 -- ---- open returns replaced
 module _ (M : Numbers) {S : Type 0} (H : Meaning S) (rec rec′ : ℕ → Option ℕ) (f : ℕ) (places : (x : ℕ) → Below (M .Z .identifiers) (rec x)) where

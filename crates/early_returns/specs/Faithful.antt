@@ -1,7 +1,7 @@
 -- Lowering as a change of functions, and that it is faithful. Assumes nothing.
 use mathlib.Core.Path.{_≡_}
 use Rattle.std.specs.declared.option.Option.{Option}
-use Rattle.std.specs.declared.option.Option.the-variants.{Some, None}
+use Rattle.std.specs.declared.option.Option.the-variants.{Some}
 use Rattle.hir.specs.Tree.{Function}
 use Rattle.simulation.specs.WellFormed.{WellFormed}
 use Rattle.simulation.specs.Faithful.{Faithful}

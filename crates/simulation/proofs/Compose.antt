@@ -3,18 +3,16 @@
 use mathlib.Core.Path.{_≡_, refl, _∙_}
 use mathlib.Core.Logic.{_⊎_, inl, inr}
 use mathlib.Core.List.{List, [], _∷_}
-use Prim.Native.Nat.{ℕ, _+_, _*_, _≤_, _<_}
+use Prim.Native.Nat.{ℕ}
 use native.Mathlib.Omega.{arith}
-use lib.ListN.{length}
 use Rattle.std.specs.declared.option.Option.{Option}
 use Rattle.std.specs.declared.option.Option.the-variants.{Some, None}
 use Rattle.hir.specs.Tree.{Function}
-use Rattle.semantics.specs.Machine.{Meaning, look, State, Out, returned}
-use Rattle.semantics.specs.Exec.{records-of}
+use Rattle.semantics.specs.Machine.{Meaning, State, Out, returned}
 use Rattle.simulation.specs.WellFormed.{All, sizes, scopesB, WellFormed}
-use Rattle.simulation.specs.Faithful.{SameStart, Ends, NoMore, EndsAlike, Simulates, Kept, Faithful, stay, then, after, IdentityFaithful, CompositionFaithful}
-use Rattle.simulation.proofs.Identity.{SameRecord, sameB}
-use Rattle.simulation.proofs.Simulate.{places, whole, Related, simulates}
+use Rattle.simulation.specs.Faithful.{SameStart, NoMore, EndsAlike, Simulates, Kept, then, IdentityFaithful, CompositionFaithful}
+use Rattle.simulation.proofs.Identity.{sameB}
+use Rattle.simulation.proofs.Simulate.{places, whole, simulates}
 
 module _ (S : Type 0) where
   agree : {R : ℕ → Type 0} → ((x : ℕ) → R x) → (xs : List ℕ) → All R xs

@@ -1,9 +1,9 @@
 -- Every construct keeps the relation between two runs: what is built alike from related parts is related.
 -- Values first, then statements.
-use mathlib.Core.Path.{_≡_, refl, sym, _∙_, ap}
+use mathlib.Core.Path.{_≡_, refl, ap}
 use mathlib.Core.Bool.{Bool, true, false}
 use mathlib.Core.List.{List, [], _∷_}
-use Prim.Native.Nat.{ℕ, zero, suc, _+_, _*_, _≤_, _<_}
+use Prim.Native.Nat.{ℕ, zero, suc, _<_}
 use native.Mathlib.Omega.{arith}
 use lib.Dec.{eqb}
 use Rattle.std.specs.declared.option.Option.{Option}
@@ -13,10 +13,10 @@ use Rattle.hir.specs.declared.terminal.ReactiveLabel.{ReactiveLabel}
 use Rattle.hir.specs.declared.terminal.ReactiveTerminalTargetKind.{ReactiveTerminalTargetKind}
 use Rattle.hir.specs.declared.terminal.ReactiveTerminalTargetKind.the-variants.{Implicit, Labeled, Unlabeled}
 use Rattle.hir.specs.Tree.{Op, Val, operation, logical, conditional, sequence, optional, OptVal, noVal, someVal, Instr, instr, Instrs, inil, icons, Stmt, instruction, scope, pruned, terminal, Term, break, continue, return, throw, switch, doWhile, while, for, forOf, forIn, if, label, try, Cases, knil, kcons, OptBlock, noBlock, someBlock, Block, nil, cons}
-use Rattle.semantics.specs.Machine.{Meaning, look, State, Out, normal, broke, continued, returned, threw, Result, done, spent, stepped, wrote, gave, at, all-at, branch, bind, mapOut, ask, test, ask-each, tick, iter}
+use Rattle.semantics.specs.Machine.{Meaning, State, normal, broke, continued, returned, threw, Result, done, spent, at, mapOut, ask-each, iter}
 use Rattle.semantics.specs.Targets.{mark, unless-implicit, mark-inside}
-use Rattle.semantics.specs.Exec.{Class, loads, declares, stores, asks-each, asks, class, operator-number, endLoop, endRound, endLabel, default, evalOp, evalV, evalI, evalIs, evalO, select, tested, runS, runT, runFrom, runO, runB, always}
-use Rattle.simulation.specs.WellFormed.{All, IfSome, Sizes, PlaceOk, LabelOk, OpOk, OkV, OkI, OkIs, OkU}
+use Rattle.semantics.specs.Exec.{Class, loads, declares, stores, asks-each, asks, class, operator-number, endLoop, default, evalOp, evalV, evalI, evalIs, evalO, select, tested, runS, runT, runFrom, runO, runB, always}
+use Rattle.simulation.specs.WellFormed.{All, IfSome, PlaceOk, LabelOk, OpOk, OkV, OkI, OkIs, OkU}
 use Rattle.simulation.proofs.Rel.{Setting, Beside, Rel, Below, normal-rel, same-rel, bind-rel, handle-rel, map-rel, branch-rel, wrote-near, idle-near, gave-near, enter-near, assign-near, leave-rel, last-same, stored-near, values-same, loop-catches, round-catches, label-catches, ask-rel, test-rel, tick-rel, iter-rel}
 
 module _ {S : Type 0} (K : Setting S) (H : Meaning S) where

@@ -1,14 +1,14 @@
 -- A tree that is left as it is behaves as it did, where its scopes have the records they had.
 -- Stores may differ above the identifiers, so this is no reflexivity.
-use mathlib.Core.Path.{_≡_, refl}
-use mathlib.Core.List.{List, [], _∷_, _++_}
+use mathlib.Core.Path.{_≡_}
+use mathlib.Core.List.{List, _++_}
 use Prim.Native.Nat.{ℕ}
 use Rattle.std.specs.declared.option.Option.{Option}
 use Rattle.hir.specs.declared.terminal.ReactiveLabel.{ReactiveLabel}
 use Rattle.hir.specs.Tree.{Stmt, instruction, scope, pruned, terminal, Term, break, continue, return, throw, switch, doWhile, while, for, forOf, forIn, if, label, try, Cases, knil, kcons, OptBlock, noBlock, someBlock, Block, nil, cons}
 use Rattle.simulation.specs.WellFormed.{All, IfSome, Sizes, LabelOk, OkS, OkT, OkK, OkO, OkB, scopesS, scopesT, scopesK, scopesO, scopesB}
 use Rattle.simulation.proofs.Lists.{all-left, all-right}
-use Rattle.simulation.proofs.Rel.{Setting, Below}
+use Rattle.simulation.proofs.Rel.{Below}
 use Rattle.simulation.proofs.Cong.{Runs, SRel, TRel, KRel, ORel, BRel, nil-rel, cons-rel, no-rel, some-rel, instruction-rel, scope-rel, pruned-rel, terminal-rel, break-rel, continue-rel, return-rel, throw-rel, switch-rel, doWhile-rel, while-rel, for-rel, forOf-rel, forIn-rel, if-rel, label-rel, try-rel, knil-rel, kcons-rel}
 
 -- both runs have the same records in these scopes

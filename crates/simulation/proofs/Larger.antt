@@ -1,7 +1,6 @@
 -- What is well-formed with some sizes is well-formed with larger ones.
 -- Passes add identifiers, labels, types and ranges, so what they keep stays in range.
-use mathlib.Core.List.{List, [], _∷_}
-use Prim.Native.Nat.{ℕ, _≤_, _<_}
+use Prim.Native.Nat.{_≤_, _<_}
 use native.Mathlib.Omega.{arith}
 use Rattle.std.specs.declared.option.Option.{Option}
 use Rattle.std.specs.declared.option.Option.the-variants.{Some, None}
@@ -11,7 +10,7 @@ use Rattle.hir.specs.declared.environment.Identifier.{Identifier}
 use Rattle.hir.specs.declared.environment.ReactiveScopeEarlyReturn.{ReactiveScopeEarlyReturn}
 use Rattle.hir.specs.declared.environment.ReactiveScopeDeclaration.{ReactiveScopeDeclaration}
 use Rattle.hir.specs.Tree.{Op, Val, operation, logical, conditional, sequence, optional, OptVal, noVal, someVal, Instr, instr, Instrs, inil, icons, Stmt, instruction, scope, pruned, terminal, Term, break, continue, return, throw, switch, doWhile, while, for, forOf, forIn, if, label, try, Cases, knil, kcons, OptBlock, noBlock, someBlock, Block, nil, cons, ScopeInfo}
-use Rattle.simulation.specs.WellFormed.{All, IfSome, Sizes, IdentifierOk, RecordOk, DeclarationOk, ScopeOk, PlaceOk, LabelOk, OpOk, OkV, OkI, OkIs, OkU, OkS, OkT, OkK, OkO, OkB}
+use Rattle.simulation.specs.WellFormed.{IfSome, Sizes, IdentifierOk, RecordOk, DeclarationOk, ScopeOk, PlaceOk, LabelOk, OpOk, OkV, OkI, OkIs, OkU, OkS, OkT, OkK, OkO, OkB}
 use Rattle.simulation.proofs.Lists.{all-map}
 
 pub record Larger (Z Z′ : Sizes) : Type 0 where

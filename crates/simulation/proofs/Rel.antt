@@ -1,5 +1,11 @@
 -- Runs side by side: when two states and two results are related, and that the machine's combinators keep them so.
 -- Every pass has its own setting; one lemma for each combinator serves them all.
+--   first                  second
+--   host, values below N   equal
+--   steps                  no more, less six for each entry and one for a record's return
+--   outcome                the same; or a break to lab, for a return that the pass has opened
+--   return 1               anything
+--   no end                 no end
 use mathlib.Core.Path.{_≡_, refl, sym, _∙_, ap}
 use mathlib.Core.Bool.{Bool, true, false}
 use mathlib.Core.Logic.{_⊎_, inl, inr}
@@ -15,7 +21,7 @@ use Rattle.hir.specs.declared.place.Place.{Place}
 use Rattle.host.specs.Asked.{Asked, asked}
 use Rattle.host.specs.declared.Reply.{Reply}
 use Rattle.host.specs.declared.Reply.the-variants.{Value, Thrown}
-use Rattle.semantics.specs.Machine.{Meaning, look, put, State, Out, normal, broke, continued, returned, threw, Result, done, spent, stepped, entered, recorded, wrote, moved, gave, at, all-at, last-at, store-all, assign, branch, bind, handle, mapOut, enter, leave, onReply, ask, test, ask-each, tick, iter}
+use Rattle.semantics.specs.Machine.{Meaning, look, put, State, Out, normal, broke, continued, returned, threw, Result, done, spent, stepped, wrote, moved, gave, all-at, last-at, store-all, assign, branch, bind, handle, mapOut, enter, leave, onReply, ask, test, tick, iter}
 use Rattle.semantics.specs.Exec.{when, hasLabel, endLoop, endRound, endLabel, always}
 use Rattle.simulation.specs.WellFormed.{All, IfSome, Sizes, PlaceOk}
 use Rattle.simulation.proofs.Stores.{look-here, look-there, length-put}

@@ -1,22 +1,22 @@
 -- Two functions whose runs are related, whatever the bound on rounds, simulate each other as is asked.
 -- The relation of the unbounded runs is carried over to the runs with a budget.
-use mathlib.Core.Path.{_≡_, refl, sym, _∙_, ap}
-use mathlib.Core.Bool.{Bool, true, false}
+use mathlib.Core.Path.{_≡_, refl, ap}
+use mathlib.Core.Bool.{false}
 use mathlib.Core.Logic.{_⊎_, inl, inr}
 use mathlib.Core.List.{List, [], _∷_}
-use Prim.Native.Nat.{ℕ, zero, suc, _+_, _*_, _≤_, _<_}
+use Prim.Native.Nat.{ℕ, zero, suc, _≤_, _<_}
 use native.Mathlib.Omega.{arith}
 use lib.ListN.{length}
 use Rattle.std.specs.declared.option.Option.{Option}
 use Rattle.std.specs.declared.option.Option.the-variants.{Some, None}
 use Rattle.hir.specs.declared.environment.ReactiveScopeEarlyReturn.{ReactiveScopeEarlyReturn}
-use Rattle.hir.specs.Tree.{Block, ScopeInfo, Function}
-use Rattle.semantics.specs.Machine.{Meaning, look, put, State, Out, normal, broke, continued, returned, threw, Result, done, spent}
-use Rattle.semantics.specs.Targets.{nowhere, TgB, aimB}
-use Rattle.semantics.specs.Exec.{recorded-place, records-of, runB, begin, always, exec, unbounded}
+use Rattle.hir.specs.Tree.{ScopeInfo, Function}
+use Rattle.semantics.specs.Machine.{Meaning, put, State, Out, normal, broke, continued, returned, threw, Result, done, spent}
+use Rattle.semantics.specs.Targets.{nowhere, TgB}
+use Rattle.semantics.specs.Exec.{recorded-place, records-of, begin, unbounded}
 use Rattle.semantics.proofs.Link.{exec-unbounded, unbounded-exec}
-use Rattle.simulation.specs.WellFormed.{All, IfSome, Sizes, sizes, RecordOk, ScopeOk, WellFormed}
-use Rattle.simulation.specs.Faithful.{SameStart, Ends, NoMore, EndsAlike, Simulates}
+use Rattle.simulation.specs.WellFormed.{All, IfSome, Sizes, sizes, RecordOk, ScopeOk}
+use Rattle.simulation.specs.Faithful.{SameStart, Ends, EndsAlike, Simulates}
 use Rattle.simulation.proofs.Stores.{length-put}
 use Rattle.simulation.proofs.Rel.{Setting, Beside, Rel, RelF, Same, Below}
 use Rattle.simulation.proofs.Cong.{Runs, BRel}

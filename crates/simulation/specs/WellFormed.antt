@@ -1,5 +1,5 @@
 -- Well-formed functions: every number in its table or below its counter, places as instruction kinds ask, every jump with its target, no scope with two Scope blocks. Assumes nothing.
-use mathlib.Core.Bool.{Bool, true, false, cond}
+use mathlib.Core.Bool.{false, cond}
 use mathlib.Core.List.{List, [], _∷_, _++_}
 use mathlib.Core.Path.{_≡_}
 use Prim.Native.Nat.{ℕ, _<_}
@@ -9,7 +9,6 @@ use Rattle.std.specs.declared.option.Option.{Option}
 use Rattle.std.specs.declared.option.Option.the-variants.{Some, None}
 use Rattle.hir.specs.declared.place.Place.{Place}
 use Rattle.hir.specs.declared.terminal.ReactiveLabel.{ReactiveLabel}
-use Rattle.hir.specs.declared.environment.Counters.{Counters}
 use Rattle.hir.specs.declared.environment.Identifier.{Identifier}
 use Rattle.hir.specs.declared.environment.ReactiveScopeEarlyReturn.{ReactiveScopeEarlyReturn}
 use Rattle.hir.specs.declared.environment.ReactiveScopeDeclaration.{ReactiveScopeDeclaration}
