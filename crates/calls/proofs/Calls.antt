@@ -38,7 +38,7 @@ module _ (S : Type 0) (F : Function) where
   lowers G g = rw (pass-is-description G (g .well-formed)) (through g (lowering-faithful S .with-room G (lowered G) (g .well-formed) refl))
 
   prunes : Keeps prune-labels
-  prunes G g = through g (pruning-faithful S G (prune-labels G) (g .well-formed) refl)
+  prunes G g = through g (pruning-faithful S .with-room G (prune-labels G) (g .well-formed) refl)
 
   walks : (f : Function → Option Function) → Faithful S f → Keeps (λ G. or-as-it-was G (f G))
   walks f k G g = go (f G) refl
@@ -112,5 +112,10 @@ taken-back : (F : Function) (ms : List Made) (h : Held) → All EndsNone ms → 
 taken-back F [] h k g = back F h g
 taken-back F (m ∷ ms) h k g = taken-back F ms (after m h) (k .1) (opened-after F (m .refused) (m .call) h (k .0) g)
 
+kept : (ms : List Made) (h : Held) → after-all (ms ++ (made keeping ∷ [])) h ≡ settled (found (after-all ms h))
+kept [] (settled G) = refl
+kept [] (draft G K) = refl
+kept (m ∷ ms) h = kept ms (after m h)
+
 pub calls-keep : (S : Type 0) → CallsPromise S
-calls-keep S = record { holds = λ F w ms k. calls-hold S F w ms k; taken-back = λ F ms k. taken-back F ms (draft F F) k refl }
+calls-keep S = record { holds = λ F w ms k. calls-hold S F w ms k; taken-back = λ F ms k. taken-back F ms (draft F F) k refl; kept = λ F ms. kept ms (settled F) }

@@ -81,3 +81,5 @@ pub record CallsPromise (S : Type 0) : Type 0 where
   pub holds : (F : Function) → Loaded F → (ms : List Made) → AllHandedIn S ms → Holds S F ms
   -- a draft that is taken back is as at its opening, whatever was made of it
   pub taken-back : (F : Function) (ms : List Made) → All EndsNone ms → after-all (made opening ∷ (ms ++ (made takingBack ∷ []))) (settled F) ≡ settled F
+  -- a draft that is kept is as it stood
+  pub kept : (F : Function) (ms : List Made) → after-all (ms ++ (made keeping ∷ [])) (settled F) ≡ settled (found (after-all ms (settled F)))

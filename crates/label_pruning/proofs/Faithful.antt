@@ -11,7 +11,7 @@ use Rattle.semantics.specs.Machine.{Meaning, State, Out, normal, broke, continu
 use Rattle.semantics.specs.Targets.{mark}
 use Rattle.semantics.specs.Exec.{endLabel, runS, runB, always, records-of}
 use Rattle.simulation.specs.WellFormed.{IfSome, Sizes, sizes, LabelOk, OkS, OkT, OkK, OkO, OkB, WellFormed}
-use Rattle.simulation.specs.Faithful.{Simulates}
+use Rattle.simulation.specs.Faithful.{Simulates, Kept}
 use Rattle.simulation.proofs.Rel.{Setting, Beside, Rel, Below, bind-rel}
 use Rattle.simulation.proofs.Cong.{Runs, SRel, TRel, KRel, ORel, BRel, nil-rel, cons-rel, no-rel, some-rel, instruction-rel, scope-rel, pruned-rel, terminal-rel, break-rel, continue-rel, return-rel, throw-rel, switch-rel, doWhile-rel, while-rel, for-rel, forOf-rel, forIn-rel, if-rel, label-rel, try-rel, knil-rel, kcons-rel}
 use Rattle.simulation.proofs.Simulate.{places, whole, Related, simulates}
@@ -114,5 +114,11 @@ pruned-simulates S F w = simulates F (prune-labels F) (F .counters .blocks) (ome
   related = λ H f. runsB (whole F (prune-labels F) (F .counters .blocks) (omega arith) H f) (λ x. refl) (places (sizes F) (F .scopes) (w .scopes-ok)) (F .body) (w .body-ok);
 })
 
+pruned-kept : (S : Type 0) (F : Function) → WellFormed F → Kept S F (prune-labels F)
+pruned-kept S F w = record { well-formed = pruned-well-formed F w; simulates = pruned-simulates S F w }
+
 pub pruning-faithful : (S : Type 0) → PruningFaithful S
-pruning-faithful S F F′ w e = let q : prune-labels F ≡ F′ = cc in rw (← q) (record { well-formed = pruned-well-formed F w; simulates = pruned-simulates S F w })
+pruning-faithful S = record {
+  with-room = λ F F′ w e. let q : prune-labels F ≡ F′ = cc in rw (← q) (pruned-kept S F w);
+  unless-refused = λ f h F F′ w e. rw (h F F′ w e) (pruned-kept S F w);
+}

@@ -1,3 +1,4 @@
 pub mod Passes
 pub mod WellFormed
 pub mod Faithful
+pub mod Examples

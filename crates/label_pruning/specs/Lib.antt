@@ -1,2 +1,3 @@
 pub mod Pruning
 pub mod Promises
+pub mod Examples
