@@ -264,6 +264,9 @@ module _ (rec : ℕ → Option ℕ) where
     outB (cons x b) e d a =
         rw (outS x e (distinct-left (scopesS x) (scopesB b) d) (left (scopesS x) (scopesB b) e a), outB b (afterS rec x e) (distinct-right (scopesS x) (scopesB b) d) (later (scopesS x) (scopesB b) e (afterS rec x e) d (frameS rec x e) a))
 
-pub pass-is-description : (F : Function) → WellFormed F → propagate-early-returns F ≡ lowered F
+pub once-described : (F : Function) → Distinct (scopesB (F .body)) → propagate-early-returns F ≡ lowered F
 unfolding propagate-early-returns lowered
-pass-is-description F w = rw (outB (records-of (F .scopes)) (F .body) (start F) (w .scopes-once) (λ y h. refl))
+once-described F d = rw (outB (records-of (F .scopes)) (F .body) (start F) d (λ y h. refl))
+
+pub pass-is-description : (F : Function) → WellFormed F → propagate-early-returns F ≡ lowered F
+pass-is-description F w = once-described F (w .scopes-once)

@@ -2,7 +2,7 @@
 use mathlib.Core.Bool.{Bool, true, false}
 use mathlib.Core.List.{List, [], _∷_}
 use mathlib.Core.Path.{_≡_}
-use Prim.Native.Nat.{ℕ}
+use Prim.Native.Nat.{ℕ, _+_}
 use Rattle.std.specs.declared.option.Option.{Option}
 use Rattle.std.specs.declared.option.Option.the-variants.{Some, None}
 use Rattle.hir.specs.declared.place.Place.{Place}
@@ -16,7 +16,7 @@ use Rattle.hir.specs.declared.environment.IdentifierName.{IdentifierName}
 use Rattle.hir.specs.declared.environment.IdentifierName.the-variants.{Named, Promoted}
 use Rattle.hir.specs.declared.environment.ReactiveScopeEarlyReturn.{ReactiveScopeEarlyReturn}
 use Rattle.hir.specs.declared.environment.ReactiveScopeDeclaration.{ReactiveScopeDeclaration}
-use Rattle.hir.specs.Tree.{operation, Op, instr, Stmt, instruction, scope, pruned, terminal, break, return, label, Block, nil, cons, ScopeInfo, Function}
+use Rattle.hir.specs.Tree.{Val, operation, Op, instr, OptVal, noVal, Stmt, instruction, scope, pruned, terminal, Term, break, return, switch, doWhile, while, for, forOf, forIn, if, label, try, Cases, knil, kcons, OptBlock, someBlock, Block, nil, cons, ScopeInfo, Function}
 use Rattle.semantics.specs.Machine.{Meaning}
 use Rattle.semantics.specs.Exec.{exec, ran}
 use Rattle.semantics.specs.declared.Outcome.{Outcome}
@@ -61,11 +61,11 @@ five span = identifier 1 (Some (Promoted 1)) 1 1 span ∷ identifier 2 None 2 2 
 
 -- a scope's block with its opening, by the identifiers, the label and the span
 abbrev pub opened : ℕ → ℕ → ℕ → ℕ → ℕ → ℕ → ℕ → Block → Block
-opened n sentinel symbol for arg l span b =
+opened n sentinel symbol property arg l span b =
     cons (does (Some (place symbol Unknown false 0)) 28 1 [] [] span)
-    (cons (does (Some (place for Unknown false 0)) 23 2 [] (place symbol Unknown false 0 ∷ []) span)
+    (cons (does (Some (place property Unknown false 0)) 23 2 [] (place symbol Unknown false 0 ∷ []) span)
     (cons (does (Some (place arg Unknown false 0)) 7 3 [] [] span)
-    (cons (does (Some (place sentinel Unknown false 0)) 12 0 [] (place symbol Unknown false 0 ∷ place for Unknown false 0 ∷ place arg Unknown false 0 ∷ []) span)
+    (cons (does (Some (place sentinel Unknown false 0)) 12 0 [] (place symbol Unknown false 0 ∷ place property Unknown false 0 ∷ place arg Unknown false 0 ∷ []) span)
     (cons (does None 4 1 (place n ConditionallyMutate true span ∷ []) (place sentinel Unknown false 0 ∷ []) span)
     (cons (terminal (label b 0) (Some (record { id = l; implicit = false }))) nil)))))
 
@@ -145,6 +145,49 @@ abbrev pub recorded-in-scope-lowered : Function
 recorded-in-scope-lowered = function (counters 8 6 6) (named ∷ five 9) (recorded 0 1 9 7 ∷ recorded 1 0 9 3 ∷ [])
     (cons (scope 0 (opened 1 2 3 4 5 7 9 (cons (scope 1 (cons (returns 0 11) nil)) (leaves 1 7 0 9 nil)))) nil)
 
+-- a block in each place where a terminal has one
+abbrev pub loads : Val
+loads = operation (record { kind = 0; payload = 0; written = []; operands = place 0 Read true 9 ∷ []; span = 9 })
+
+abbrev pub ends : Term → Block → Block
+ends t r = cons (terminal t None) r
+
+abbrev pub in-terminals : Block → Block → Block → Block → Block → Block → Block → Block → Block → Block → Block → Block
+in-terminals a b c d e f g h i j k =
+    ends (switch (place 0 Read true 9) (kcons None (someBlock a) knil) 1) (ends (doWhile b loads 2) (ends (while loads c 3) (ends (for loads loads noVal d 4) (ends (forOf loads loads e 5 9)
+    (ends (forIn loads f 6 9) (ends (if (place 0 Read true 9) g (someBlock h) 7) (ends (label i 8) (ends (try j None k 9) nil))))))))
+
+abbrev pub everywhere : Block → Block
+everywhere b = in-terminals b b b b b b b b b b b
+
+-- a scope around all of them
+abbrev pub returns-in-terminals : Function
+returns-in-terminals = function (counters 7 1 1) (named ∷ []) (plain ∷ []) (cons (scope 0 (everywhere (cons (returns 0 9) nil))) nil)
+
+abbrev pub returns-in-terminals-lowered : Function
+returns-in-terminals-lowered = function (counters 8 6 6) (named ∷ five 9) (recorded 0 1 9 7 ∷ []) (cons (scope 0 (opened 1 2 3 4 5 7 9 (everywhere (leaves 1 7 0 9 nil)))) nil)
+
+-- an outermost scope in each of them
+abbrev pub returning : ℕ → Block
+returning x = cons (scope x (cons (returns 0 9) nil)) nil
+
+abbrev pub scopes-in-terminals : Function
+scopes-in-terminals = function (counters 7 1 1) (named ∷ []) (plain ∷ plain ∷ plain ∷ plain ∷ plain ∷ plain ∷ plain ∷ plain ∷ plain ∷ plain ∷ plain ∷ [])
+    (in-terminals (returning 0) (returning 1) (returning 2) (returning 3) (returning 4) (returning 5) (returning 6) (returning 7) (returning 8) (returning 9) (returning 10))
+
+-- five identifiers from n on, before others
+abbrev pub and-five : ℕ → List Identifier → List Identifier
+and-five n is = identifier n (Some (Promoted n)) n n 9 ∷ identifier (n + 1) None (n + 1) (n + 1) 9 ∷ identifier (n + 2) None (n + 2) (n + 2) 9 ∷ identifier (n + 3) None (n + 3) (n + 3) 9 ∷ identifier (n + 4) None (n + 4) (n + 4) 9 ∷ is
+
+abbrev pub left : ℕ → ℕ → ℕ → Block
+left x n l = cons (scope x (opened n (n + 1) (n + 2) (n + 3) (n + 4) l 9 (leaves n l 0 9 nil))) nil
+
+abbrev pub scopes-in-terminals-lowered : Function
+scopes-in-terminals-lowered = function (counters 18 56 56)
+    (named ∷ and-five 1 (and-five 6 (and-five 11 (and-five 16 (and-five 21 (and-five 26 (and-five 31 (and-five 36 (and-five 41 (and-five 46 (and-five 51 [])))))))))))
+    (recorded 0 1 9 7 ∷ recorded 1 6 9 8 ∷ recorded 2 11 9 9 ∷ recorded 3 16 9 10 ∷ recorded 4 21 9 11 ∷ recorded 5 26 9 12 ∷ recorded 6 31 9 13 ∷ recorded 7 36 9 14 ∷ recorded 8 41 9 15 ∷ recorded 9 46 9 16 ∷ recorded 10 51 9 17 ∷ [])
+    (in-terminals (left 0 1 7) (left 1 6 8) (left 2 11 9) (left 3 16 10) (left 4 21 11) (left 5 26 12) (left 6 31 13) (left 7 36 14) (left 8 41 15) (left 9 46 16) (left 10 51 17))
+
 -- ---- the table
 pub record Lowers (lower : Function → Function) : Type 0 where
   pub in-a-scope : lower return-in-scope ≡ return-in-scope-lowered
@@ -155,6 +198,8 @@ pub record Lowers (lower : Function → Function) : Type 0 where
   pub in-a-scope-in-a-scope : lower scope-in-scope ≡ scope-in-scope-lowered
   pub in-a-recorded-scope : lower recorded-scope ≡ recorded-scope
   pub in-a-recorded-scope-in-a-scope : lower recorded-in-scope ≡ recorded-in-scope-lowered
+  pub in-every-terminal-in-a-scope : lower returns-in-terminals ≡ returns-in-terminals-lowered
+  pub in-a-scope-in-every-terminal : lower scopes-in-terminals ≡ scopes-in-terminals-lowered
 
 abbrev pub runs-so : Outcome → ℕ → ℕ → Bool → Ran
 runs-so outcome steps entries recorded = record { outcome = outcome; steps = steps; entries = entries; recorded = recorded }

@@ -5,4 +5,4 @@ use Rattle.label_pruning.specs.Examples.{Examples}
 
 pub examples-hold : Examples
 unfolding prune-labels
-examples-hold = record { untargeted = refl; empty = refl; targeted = refl; targeted-from-inside = refl; inner-one = refl; inner-loop = refl; both = refl; own-label = refl; no-label = refl; implicit-label = refl; loops-stay = refl }
+examples-hold = record { untargeted = refl; empty = refl; targeted = refl; targeted-from-inside = refl; inner-one = refl; inner-loop = refl; both = refl; own-label = refl; no-label = refl; implicit-label = refl; in-every-statement = refl; loops-stay = refl }

@@ -11,7 +11,7 @@ use Rattle.hir.specs.declared.terminal.ReactiveLabel.{ReactiveLabel}
 use Rattle.hir.specs.declared.terminal.ReactiveTerminalTargetKind.{ReactiveTerminalTargetKind}
 use Rattle.hir.specs.declared.terminal.ReactiveTerminalTargetKind.the-variants.{Implicit, Labeled, Unlabeled}
 use Rattle.hir.specs.declared.environment.Counters.{Counters}
-use Rattle.hir.specs.Tree.{Val, operation, Op, Stmt, scope, pruned, terminal, break, continue, throw, while, if, label, try, OptBlock, noBlock, someBlock, Block, nil, cons, Function}
+use Rattle.hir.specs.Tree.{Val, operation, Op, OptVal, noVal, Stmt, scope, pruned, terminal, Term, break, continue, throw, switch, doWhile, while, for, forOf, forIn, if, label, try, Cases, knil, kcons, OptBlock, noBlock, someBlock, Block, nil, cons, Function}
 use Rattle.label_pruning.specs.Pruning.{prune-labels}
 
 -- ---- how the examples are written
@@ -54,6 +54,15 @@ continues-to l = terminal (continue l 0 Labeled) None
 abbrev pub choice : List Stmt → Stmt
 choice xs = terminal (if (place 0) (block xs) noBlock 0) None
 
+-- the statements in each place where a statement other than a Label has a block
+abbrev pub ends : Term → Stmt
+ends t = terminal t None
+
+abbrev pub everywhere : List Stmt → List Stmt
+everywhere xs =
+    scope 0 (block xs) ∷ pruned 0 (block xs) ∷ ends (switch (place 0) (kcons None (someBlock (block xs)) knil) 1) ∷ ends (doWhile (block xs) value 2) ∷ ends (while value (block xs) 3) ∷ ends (for value value noVal (block xs) 4)
+    ∷ ends (forOf value value (block xs) 5 0) ∷ ends (forIn value (block xs) 6 0) ∷ ends (if (place 0) (block xs) (someBlock (block xs)) 7) ∷ ends (try (block xs) None (block xs) 9) ∷ []
+
 abbrev pub body : List Stmt → Function
 body xs = record { counters = record { blocks = 9; types = 0; ranges = 0 }; identifiers = []; scopes = []; body = block xs }
 
@@ -79,5 +88,7 @@ pub record Examples : Type 0 where
   -- without a label, or with an implicit one
   pub no-label : Prunes (labeled 1 (unlabeled (breaks-to 1 ∷ []) ∷ []) ∷ []) (labeled 1 (breaks-to 1 ∷ []) ∷ [])
   pub implicit-label : Prunes (labeled 1 (implicitly 1 (breaks-to 1 ∷ []) ∷ []) ∷ []) (labeled 1 (breaks-to 1 ∷ []) ∷ [])
+  -- in every statement
+  pub in-every-statement : Prunes (everywhere (labeled 1 (leaf 2 ∷ []) ∷ [])) (everywhere (leaf 2 ∷ []))
   -- loops stay
   pub loops-stay : Prunes (loop 1 (leaf 1 ∷ []) ∷ []) (loop 1 (leaf 1 ∷ []) ∷ [])
