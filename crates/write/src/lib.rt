@@ -1,5 +1,7 @@
 // Writes the function that tables hold as a file.
+mod block;
 mod number;
 mod place;
+mod terminal;
 mod value;
 mod word;

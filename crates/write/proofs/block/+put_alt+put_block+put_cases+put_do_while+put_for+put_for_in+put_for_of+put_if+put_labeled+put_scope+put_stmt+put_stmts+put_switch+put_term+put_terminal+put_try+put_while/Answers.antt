@@ -1,0 +1,738 @@
+use mathlib.Core.Path.{_≡_, refl, sym, ap, _∙_}
+use mathlib.Core.List.{[], _∷_, _++_}
+use Prim.Native.Nat.{ℕ, _+_, _-_, _*_, _≤_}
+use native.Mathlib.Omega.{arith}
+use Rattle.std.specs.Of.Vec.{vec-items}
+use Rattle.hir.specs.Decode.{top-value, opt-block-of}
+use Rattle.hir.specs.Encode.{val-words, opt-val-words, instr-words, stmt-words, term-words, cases-words, opt-block-words, body-words, block-words}
+use Rattle.hir.specs.Held.{value-slots, slots}
+use Rattle.hir.specs.Tree.{instruction, scope, pruned, terminal, break, continue, return, throw, switch, doWhile, while, for, forOf, forIn, if, label, try, knil, kcons, noBlock, someBlock, nil, cons}
+use Rattle.hir.proofs.Bound.{some-some}
+use Rattle.hir.proofs.Parts.{switch-parts, do-while-parts, while-parts, for-parts, for-of-parts, for-in-parts, if-parts, label-parts, try-parts, instruction-parts, terminal-parts, scope-parts, pruned-parts, some-block-parts, cases-parts, body-parts, block-parts}
+use Rattle.write.specs.Stands.{block-in, cases-in, terminal-in, slot-in, body-in}
+use Rattle.write.proofs.Lay.{wrote-none, wrote-more, word-as, room-word, room-first, room-rest, room-of, writable, written}
+use Rattle.write.proofs.Nodes.{statement-at, statement-node}
+use Rattle.write.proofs.block.+put_alt+put_block+put_cases+put_do_while+put_for+put_for_in+put_for_of+put_if+put_labeled+put_scope+put_stmt+put_stmts+put_switch+put_term+put_terminal+put_try+put_while.Needs as need
+
+pub put-do-while-put-word-count-requires : need.put-do-while-put-word-count-requires
+put-do-while-put-word-count-requires t c κs =
+    let p = do-while-parts (slots (c .args .arena .now)) (top-value (value-slots (c .args .arena .now .inner))) (block-in (c .args .depth) (c .args .arena .now)) (c .args .block) (c .args .test) (c .args .id) (c .pre .what) (c .pre .stands) in
+    let r₀ = room-of (c .pre) (doWhile (p .body) (p .test) (c .args .id)) (p .is) in
+    room-word r₀
+
+pub put-do-while-put-block-value-requires : need.put-do-while-put-block-value-requires
+put-do-while-put-block-value-requires t c κs =
+    let p = do-while-parts (slots (c .args .arena .now)) (top-value (value-slots (c .args .arena .now .inner))) (block-in (c .args .depth) (c .args .arena .now)) (c .args .block) (c .args .test) (c .args .id) (c .pre .what) (c .pre .stands) in
+    let r₀ = room-of (c .pre) (doWhile (p .body) (p .test) (c .args .id)) (p .is) in
+    let r₁ = room-rest _ (c .put-word-count .ensures) r₀ in
+    (omega arith, writable block-words (p .body-is) (room-first _ _ r₁))
+
+pub put-do-while-put-top-order-requires : need.put-do-while-put-top-order-requires
+put-do-while-put-top-order-requires t c κs =
+    let p = do-while-parts (slots (c .args .arena .now)) (top-value (value-slots (c .args .arena .now .inner))) (block-in (c .args .depth) (c .args .arena .now)) (c .args .block) (c .args .test) (c .args .id) (c .pre .what) (c .pre .stands) in
+    let r₀ = room-of (c .pre) (doWhile (p .body) (p .test) (c .args .id)) (p .is) in
+    let r₁ = room-rest _ (c .put-word-count .ensures) r₀ in
+    let r₂ = room-rest _ (c .put-block-value .ensures .wrote _ (p .body-is)) r₁ in
+    writable val-words (p .test-is) (room-first _ _ r₂)
+
+pub put-do-while-put-word-requires : need.put-do-while-put-word-requires
+put-do-while-put-word-requires t c κs =
+    let p = do-while-parts (slots (c .args .arena .now)) (top-value (value-slots (c .args .arena .now .inner))) (block-in (c .args .depth) (c .args .arena .now)) (c .args .block) (c .args .test) (c .args .id) (c .pre .what) (c .pre .stands) in
+    let r₀ = room-of (c .pre) (doWhile (p .body) (p .test) (c .args .id)) (p .is) in
+    let r₁ = room-rest _ (c .put-word-count .ensures) r₀ in
+    let r₂ = room-rest _ (c .put-block-value .ensures .wrote _ (p .body-is)) r₁ in
+    let r₃ = room-rest _ (c .put-top-order .ensures .wrote _ (p .test-is)) r₂ in
+    room-word r₃
+
+pub put-do-while-returns : need.put-do-while-returns
+put-do-while-returns t c =
+    let p = do-while-parts (slots (c .args .arena .now)) (top-value (value-slots (c .args .arena .now .inner))) (block-in (c .args .depth) (c .args .arena .now)) (c .args .block) (c .args .test) (c .args .id) (c .pre .what) (c .pre .stands) in
+    written (c .pre) (doWhile (p .body) (p .test) (c .args .id)) (p .is) (wrote-more (c .put-word-count .ensures) (wrote-more (c .put-block-value .ensures .wrote _ (p .body-is)) (wrote-more (c .put-top-order .ensures .wrote _ (p .test-is)) (c .put-word .ensures))))
+
+pub put-while-put-word-value-requires : need.put-while-put-word-value-requires
+put-while-put-word-value-requires t c κs =
+    let p = while-parts (slots (c .args .arena .now)) (top-value (value-slots (c .args .arena .now .inner))) (block-in (c .args .depth) (c .args .arena .now)) (c .args .test) (c .args .block) (c .args .id) (c .pre .what) (c .pre .stands) in
+    let r₀ = room-of (c .pre) (while (p .test) (p .body) (c .args .id)) (p .is) in
+    room-word r₀
+
+pub put-while-put-top-count-requires : need.put-while-put-top-count-requires
+put-while-put-top-count-requires t c κs =
+    let p = while-parts (slots (c .args .arena .now)) (top-value (value-slots (c .args .arena .now .inner))) (block-in (c .args .depth) (c .args .arena .now)) (c .args .test) (c .args .block) (c .args .id) (c .pre .what) (c .pre .stands) in
+    let r₀ = room-of (c .pre) (while (p .test) (p .body) (c .args .id)) (p .is) in
+    let r₁ = room-rest _ (c .put-word-value .ensures) r₀ in
+    writable val-words (p .test-is) (room-first _ _ r₁)
+
+pub put-while-put-block-order-requires : need.put-while-put-block-order-requires
+put-while-put-block-order-requires t c κs =
+    let p = while-parts (slots (c .args .arena .now)) (top-value (value-slots (c .args .arena .now .inner))) (block-in (c .args .depth) (c .args .arena .now)) (c .args .test) (c .args .block) (c .args .id) (c .pre .what) (c .pre .stands) in
+    let r₀ = room-of (c .pre) (while (p .test) (p .body) (c .args .id)) (p .is) in
+    let r₁ = room-rest _ (c .put-word-value .ensures) r₀ in
+    let r₂ = room-rest _ (c .put-top-count .ensures .wrote _ (p .test-is)) r₁ in
+    (omega arith, writable block-words (p .body-is) (room-first _ _ r₂))
+
+pub put-while-put-word-requires : need.put-while-put-word-requires
+put-while-put-word-requires t c κs =
+    let p = while-parts (slots (c .args .arena .now)) (top-value (value-slots (c .args .arena .now .inner))) (block-in (c .args .depth) (c .args .arena .now)) (c .args .test) (c .args .block) (c .args .id) (c .pre .what) (c .pre .stands) in
+    let r₀ = room-of (c .pre) (while (p .test) (p .body) (c .args .id)) (p .is) in
+    let r₁ = room-rest _ (c .put-word-value .ensures) r₀ in
+    let r₂ = room-rest _ (c .put-top-count .ensures .wrote _ (p .test-is)) r₁ in
+    let r₃ = room-rest _ (c .put-block-order .ensures .wrote _ (p .body-is)) r₂ in
+    room-word r₃
+
+pub put-while-returns : need.put-while-returns
+put-while-returns t c =
+    let p = while-parts (slots (c .args .arena .now)) (top-value (value-slots (c .args .arena .now .inner))) (block-in (c .args .depth) (c .args .arena .now)) (c .args .test) (c .args .block) (c .args .id) (c .pre .what) (c .pre .stands) in
+    written (c .pre) (while (p .test) (p .body) (c .args .id)) (p .is) (wrote-more (c .put-word-value .ensures) (wrote-more (c .put-top-count .ensures .wrote _ (p .test-is)) (wrote-more (c .put-block-order .ensures .wrote _ (p .body-is)) (c .put-word .ensures))))
+
+pub put-for-put-word-first-requires : need.put-for-put-word-first-requires
+put-for-put-word-first-requires t c κs =
+    let p = for-parts (slots (c .args .arena .now)) (top-value (value-slots (c .args .arena .now .inner))) (block-in (c .args .depth) (c .args .arena .now)) (c .args .init) (c .args .test) (c .args .update) (c .args .block) (c .args .id) (c .pre .what) (c .pre .stands) in
+    let r₀ = room-of (c .pre) (for (p .init) (p .test) (p .update) (p .body) (c .args .id)) (p .is) in
+    room-word r₀
+
+pub put-for-put-top-second-requires : need.put-for-put-top-second-requires
+put-for-put-top-second-requires t c κs =
+    let p = for-parts (slots (c .args .arena .now)) (top-value (value-slots (c .args .arena .now .inner))) (block-in (c .args .depth) (c .args .arena .now)) (c .args .init) (c .args .test) (c .args .update) (c .args .block) (c .args .id) (c .pre .what) (c .pre .stands) in
+    let r₀ = room-of (c .pre) (for (p .init) (p .test) (p .update) (p .body) (c .args .id)) (p .is) in
+    let r₁ = room-rest _ (c .put-word-first .ensures) r₀ in
+    writable val-words (p .init-is) (room-first _ _ r₁)
+
+pub put-for-put-top-third-requires : need.put-for-put-top-third-requires
+put-for-put-top-third-requires t c κs =
+    let p = for-parts (slots (c .args .arena .now)) (top-value (value-slots (c .args .arena .now .inner))) (block-in (c .args .depth) (c .args .arena .now)) (c .args .init) (c .args .test) (c .args .update) (c .args .block) (c .args .id) (c .pre .what) (c .pre .stands) in
+    let r₀ = room-of (c .pre) (for (p .init) (p .test) (p .update) (p .body) (c .args .id)) (p .is) in
+    let r₁ = room-rest _ (c .put-word-first .ensures) r₀ in
+    let r₂ = room-rest _ (c .put-top-second .ensures .wrote _ (p .init-is)) r₁ in
+    writable val-words (p .test-is) (room-first _ _ r₂)
+
+pub put-for-put-opt-top-count-requires : need.put-for-put-opt-top-count-requires
+put-for-put-opt-top-count-requires t c κs =
+    let p = for-parts (slots (c .args .arena .now)) (top-value (value-slots (c .args .arena .now .inner))) (block-in (c .args .depth) (c .args .arena .now)) (c .args .init) (c .args .test) (c .args .update) (c .args .block) (c .args .id) (c .pre .what) (c .pre .stands) in
+    let r₀ = room-of (c .pre) (for (p .init) (p .test) (p .update) (p .body) (c .args .id)) (p .is) in
+    let r₁ = room-rest _ (c .put-word-first .ensures) r₀ in
+    let r₂ = room-rest _ (c .put-top-second .ensures .wrote _ (p .init-is)) r₁ in
+    let r₃ = room-rest _ (c .put-top-third .ensures .wrote _ (p .test-is)) r₂ in
+    writable opt-val-words (p .update-is) (room-first _ _ r₃)
+
+pub put-for-put-block-order-requires : need.put-for-put-block-order-requires
+put-for-put-block-order-requires t c κs =
+    let p = for-parts (slots (c .args .arena .now)) (top-value (value-slots (c .args .arena .now .inner))) (block-in (c .args .depth) (c .args .arena .now)) (c .args .init) (c .args .test) (c .args .update) (c .args .block) (c .args .id) (c .pre .what) (c .pre .stands) in
+    let r₀ = room-of (c .pre) (for (p .init) (p .test) (p .update) (p .body) (c .args .id)) (p .is) in
+    let r₁ = room-rest _ (c .put-word-first .ensures) r₀ in
+    let r₂ = room-rest _ (c .put-top-second .ensures .wrote _ (p .init-is)) r₁ in
+    let r₃ = room-rest _ (c .put-top-third .ensures .wrote _ (p .test-is)) r₂ in
+    let r₄ = room-rest _ (c .put-opt-top-count .ensures .wrote _ (p .update-is)) r₃ in
+    (omega arith, writable block-words (p .body-is) (room-first _ _ r₄))
+
+pub put-for-put-word-requires : need.put-for-put-word-requires
+put-for-put-word-requires t c κs =
+    let p = for-parts (slots (c .args .arena .now)) (top-value (value-slots (c .args .arena .now .inner))) (block-in (c .args .depth) (c .args .arena .now)) (c .args .init) (c .args .test) (c .args .update) (c .args .block) (c .args .id) (c .pre .what) (c .pre .stands) in
+    let r₀ = room-of (c .pre) (for (p .init) (p .test) (p .update) (p .body) (c .args .id)) (p .is) in
+    let r₁ = room-rest _ (c .put-word-first .ensures) r₀ in
+    let r₂ = room-rest _ (c .put-top-second .ensures .wrote _ (p .init-is)) r₁ in
+    let r₃ = room-rest _ (c .put-top-third .ensures .wrote _ (p .test-is)) r₂ in
+    let r₄ = room-rest _ (c .put-opt-top-count .ensures .wrote _ (p .update-is)) r₃ in
+    let r₅ = room-rest _ (c .put-block-order .ensures .wrote _ (p .body-is)) r₄ in
+    room-word r₅
+
+pub put-for-returns : need.put-for-returns
+put-for-returns t c =
+    let p = for-parts (slots (c .args .arena .now)) (top-value (value-slots (c .args .arena .now .inner))) (block-in (c .args .depth) (c .args .arena .now)) (c .args .init) (c .args .test) (c .args .update) (c .args .block) (c .args .id) (c .pre .what) (c .pre .stands) in
+    written (c .pre) (for (p .init) (p .test) (p .update) (p .body) (c .args .id)) (p .is) (wrote-more (c .put-word-first .ensures) (wrote-more (c .put-top-second .ensures .wrote _ (p .init-is)) (wrote-more (c .put-top-third .ensures .wrote _ (p .test-is)) (wrote-more (c .put-opt-top-count .ensures .wrote _ (p .update-is)) (wrote-more (c .put-block-order .ensures .wrote _ (p .body-is)) (c .put-word .ensures))))))
+
+pub put-for-of-put-word-first-requires : need.put-for-of-put-word-first-requires
+put-for-of-put-word-first-requires t c κs =
+    let p = for-of-parts (slots (c .args .arena .now)) (top-value (value-slots (c .args .arena .now .inner))) (block-in (c .args .depth) (c .args .arena .now)) (c .args .init) (c .args .test) (c .args .block) (c .args .id) (c .args .span) (c .pre .what) (c .pre .stands) in
+    let r₀ = room-of (c .pre) (forOf (p .init) (p .test) (p .body) (c .args .id) (c .args .span)) (p .is) in
+    room-word r₀
+
+pub put-for-of-put-top-second-requires : need.put-for-of-put-top-second-requires
+put-for-of-put-top-second-requires t c κs =
+    let p = for-of-parts (slots (c .args .arena .now)) (top-value (value-slots (c .args .arena .now .inner))) (block-in (c .args .depth) (c .args .arena .now)) (c .args .init) (c .args .test) (c .args .block) (c .args .id) (c .args .span) (c .pre .what) (c .pre .stands) in
+    let r₀ = room-of (c .pre) (forOf (p .init) (p .test) (p .body) (c .args .id) (c .args .span)) (p .is) in
+    let r₁ = room-rest _ (c .put-word-first .ensures) r₀ in
+    writable val-words (p .init-is) (room-first _ _ r₁)
+
+pub put-for-of-put-top-count-requires : need.put-for-of-put-top-count-requires
+put-for-of-put-top-count-requires t c κs =
+    let p = for-of-parts (slots (c .args .arena .now)) (top-value (value-slots (c .args .arena .now .inner))) (block-in (c .args .depth) (c .args .arena .now)) (c .args .init) (c .args .test) (c .args .block) (c .args .id) (c .args .span) (c .pre .what) (c .pre .stands) in
+    let r₀ = room-of (c .pre) (forOf (p .init) (p .test) (p .body) (c .args .id) (c .args .span)) (p .is) in
+    let r₁ = room-rest _ (c .put-word-first .ensures) r₀ in
+    let r₂ = room-rest _ (c .put-top-second .ensures .wrote _ (p .init-is)) r₁ in
+    writable val-words (p .test-is) (room-first _ _ r₂)
+
+pub put-for-of-put-block-order-requires : need.put-for-of-put-block-order-requires
+put-for-of-put-block-order-requires t c κs =
+    let p = for-of-parts (slots (c .args .arena .now)) (top-value (value-slots (c .args .arena .now .inner))) (block-in (c .args .depth) (c .args .arena .now)) (c .args .init) (c .args .test) (c .args .block) (c .args .id) (c .args .span) (c .pre .what) (c .pre .stands) in
+    let r₀ = room-of (c .pre) (forOf (p .init) (p .test) (p .body) (c .args .id) (c .args .span)) (p .is) in
+    let r₁ = room-rest _ (c .put-word-first .ensures) r₀ in
+    let r₂ = room-rest _ (c .put-top-second .ensures .wrote _ (p .init-is)) r₁ in
+    let r₃ = room-rest _ (c .put-top-count .ensures .wrote _ (p .test-is)) r₂ in
+    (omega arith, writable block-words (p .body-is) (room-first _ _ r₃))
+
+pub put-for-of-put-word-last-requires : need.put-for-of-put-word-last-requires
+put-for-of-put-word-last-requires t c κs =
+    let p = for-of-parts (slots (c .args .arena .now)) (top-value (value-slots (c .args .arena .now .inner))) (block-in (c .args .depth) (c .args .arena .now)) (c .args .init) (c .args .test) (c .args .block) (c .args .id) (c .args .span) (c .pre .what) (c .pre .stands) in
+    let r₀ = room-of (c .pre) (forOf (p .init) (p .test) (p .body) (c .args .id) (c .args .span)) (p .is) in
+    let r₁ = room-rest _ (c .put-word-first .ensures) r₀ in
+    let r₂ = room-rest _ (c .put-top-second .ensures .wrote _ (p .init-is)) r₁ in
+    let r₃ = room-rest _ (c .put-top-count .ensures .wrote _ (p .test-is)) r₂ in
+    let r₄ = room-rest _ (c .put-block-order .ensures .wrote _ (p .body-is)) r₃ in
+    room-word r₄
+
+pub put-for-of-put-word-requires : need.put-for-of-put-word-requires
+put-for-of-put-word-requires t c κs =
+    let p = for-of-parts (slots (c .args .arena .now)) (top-value (value-slots (c .args .arena .now .inner))) (block-in (c .args .depth) (c .args .arena .now)) (c .args .init) (c .args .test) (c .args .block) (c .args .id) (c .args .span) (c .pre .what) (c .pre .stands) in
+    let r₀ = room-of (c .pre) (forOf (p .init) (p .test) (p .body) (c .args .id) (c .args .span)) (p .is) in
+    let r₁ = room-rest _ (c .put-word-first .ensures) r₀ in
+    let r₂ = room-rest _ (c .put-top-second .ensures .wrote _ (p .init-is)) r₁ in
+    let r₃ = room-rest _ (c .put-top-count .ensures .wrote _ (p .test-is)) r₂ in
+    let r₄ = room-rest _ (c .put-block-order .ensures .wrote _ (p .body-is)) r₃ in
+    let r₅ = room-rest _ (c .put-word-last .ensures) r₄ in
+    room-word r₅
+
+pub put-for-of-returns : need.put-for-of-returns
+put-for-of-returns t c =
+    let p = for-of-parts (slots (c .args .arena .now)) (top-value (value-slots (c .args .arena .now .inner))) (block-in (c .args .depth) (c .args .arena .now)) (c .args .init) (c .args .test) (c .args .block) (c .args .id) (c .args .span) (c .pre .what) (c .pre .stands) in
+    written (c .pre) (forOf (p .init) (p .test) (p .body) (c .args .id) (c .args .span)) (p .is) (wrote-more (c .put-word-first .ensures) (wrote-more (c .put-top-second .ensures .wrote _ (p .init-is)) (wrote-more (c .put-top-count .ensures .wrote _ (p .test-is)) (wrote-more (c .put-block-order .ensures .wrote _ (p .body-is)) (wrote-more (c .put-word-last .ensures) (c .put-word .ensures))))))
+
+pub put-for-in-put-word-value-requires : need.put-for-in-put-word-value-requires
+put-for-in-put-word-value-requires t c κs =
+    let p = for-in-parts (slots (c .args .arena .now)) (top-value (value-slots (c .args .arena .now .inner))) (block-in (c .args .depth) (c .args .arena .now)) (c .args .init) (c .args .block) (c .args .id) (c .args .span) (c .pre .what) (c .pre .stands) in
+    let r₀ = room-of (c .pre) (forIn (p .init) (p .body) (c .args .id) (c .args .span)) (p .is) in
+    room-word r₀
+
+pub put-for-in-put-top-count-requires : need.put-for-in-put-top-count-requires
+put-for-in-put-top-count-requires t c κs =
+    let p = for-in-parts (slots (c .args .arena .now)) (top-value (value-slots (c .args .arena .now .inner))) (block-in (c .args .depth) (c .args .arena .now)) (c .args .init) (c .args .block) (c .args .id) (c .args .span) (c .pre .what) (c .pre .stands) in
+    let r₀ = room-of (c .pre) (forIn (p .init) (p .body) (c .args .id) (c .args .span)) (p .is) in
+    let r₁ = room-rest _ (c .put-word-value .ensures) r₀ in
+    writable val-words (p .init-is) (room-first _ _ r₁)
+
+pub put-for-in-put-block-order-requires : need.put-for-in-put-block-order-requires
+put-for-in-put-block-order-requires t c κs =
+    let p = for-in-parts (slots (c .args .arena .now)) (top-value (value-slots (c .args .arena .now .inner))) (block-in (c .args .depth) (c .args .arena .now)) (c .args .init) (c .args .block) (c .args .id) (c .args .span) (c .pre .what) (c .pre .stands) in
+    let r₀ = room-of (c .pre) (forIn (p .init) (p .body) (c .args .id) (c .args .span)) (p .is) in
+    let r₁ = room-rest _ (c .put-word-value .ensures) r₀ in
+    let r₂ = room-rest _ (c .put-top-count .ensures .wrote _ (p .init-is)) r₁ in
+    (omega arith, writable block-words (p .body-is) (room-first _ _ r₂))
+
+pub put-for-in-put-word-last-requires : need.put-for-in-put-word-last-requires
+put-for-in-put-word-last-requires t c κs =
+    let p = for-in-parts (slots (c .args .arena .now)) (top-value (value-slots (c .args .arena .now .inner))) (block-in (c .args .depth) (c .args .arena .now)) (c .args .init) (c .args .block) (c .args .id) (c .args .span) (c .pre .what) (c .pre .stands) in
+    let r₀ = room-of (c .pre) (forIn (p .init) (p .body) (c .args .id) (c .args .span)) (p .is) in
+    let r₁ = room-rest _ (c .put-word-value .ensures) r₀ in
+    let r₂ = room-rest _ (c .put-top-count .ensures .wrote _ (p .init-is)) r₁ in
+    let r₃ = room-rest _ (c .put-block-order .ensures .wrote _ (p .body-is)) r₂ in
+    room-word r₃
+
+pub put-for-in-put-word-requires : need.put-for-in-put-word-requires
+put-for-in-put-word-requires t c κs =
+    let p = for-in-parts (slots (c .args .arena .now)) (top-value (value-slots (c .args .arena .now .inner))) (block-in (c .args .depth) (c .args .arena .now)) (c .args .init) (c .args .block) (c .args .id) (c .args .span) (c .pre .what) (c .pre .stands) in
+    let r₀ = room-of (c .pre) (forIn (p .init) (p .body) (c .args .id) (c .args .span)) (p .is) in
+    let r₁ = room-rest _ (c .put-word-value .ensures) r₀ in
+    let r₂ = room-rest _ (c .put-top-count .ensures .wrote _ (p .init-is)) r₁ in
+    let r₃ = room-rest _ (c .put-block-order .ensures .wrote _ (p .body-is)) r₂ in
+    let r₄ = room-rest _ (c .put-word-last .ensures) r₃ in
+    room-word r₄
+
+pub put-for-in-returns : need.put-for-in-returns
+put-for-in-returns t c =
+    let p = for-in-parts (slots (c .args .arena .now)) (top-value (value-slots (c .args .arena .now .inner))) (block-in (c .args .depth) (c .args .arena .now)) (c .args .init) (c .args .block) (c .args .id) (c .args .span) (c .pre .what) (c .pre .stands) in
+    written (c .pre) (forIn (p .init) (p .body) (c .args .id) (c .args .span)) (p .is) (wrote-more (c .put-word-value .ensures) (wrote-more (c .put-top-count .ensures .wrote _ (p .init-is)) (wrote-more (c .put-block-order .ensures .wrote _ (p .body-is)) (wrote-more (c .put-word-last .ensures) (c .put-word .ensures)))))
+
+pub put-if-put-word-place-requires : need.put-if-put-word-place-requires
+put-if-put-word-place-requires t c κs =
+    let p = if-parts (slots (c .args .arena .now)) (top-value (value-slots (c .args .arena .now .inner))) (block-in (c .args .depth) (c .args .arena .now)) (c .args .test) (c .args .consequent) (c .args .alternate) (c .args .id) (c .pre .what) (c .pre .stands) in
+    let r₀ = room-of (c .pre) (if (c .args .test) (p .consequent) (p .alternate) (c .args .id)) (p .is) in
+    room-word r₀
+
+pub put-if-put-place-count-requires : need.put-if-put-place-count-requires
+put-if-put-place-count-requires t c κs =
+    let p = if-parts (slots (c .args .arena .now)) (top-value (value-slots (c .args .arena .now .inner))) (block-in (c .args .depth) (c .args .arena .now)) (c .args .test) (c .args .consequent) (c .args .alternate) (c .args .id) (c .pre .what) (c .pre .stands) in
+    let r₀ = room-of (c .pre) (if (c .args .test) (p .consequent) (p .alternate) (c .args .id)) (p .is) in
+    let r₁ = room-rest _ (c .put-word-place .ensures) r₀ in
+    room-first _ _ r₁
+
+pub put-if-put-block-option-requires : need.put-if-put-block-option-requires
+put-if-put-block-option-requires t c κs =
+    let p = if-parts (slots (c .args .arena .now)) (top-value (value-slots (c .args .arena .now .inner))) (block-in (c .args .depth) (c .args .arena .now)) (c .args .test) (c .args .consequent) (c .args .alternate) (c .args .id) (c .pre .what) (c .pre .stands) in
+    let r₀ = room-of (c .pre) (if (c .args .test) (p .consequent) (p .alternate) (c .args .id)) (p .is) in
+    let r₁ = room-rest _ (c .put-word-place .ensures) r₀ in
+    let r₂ = room-rest _ (c .put-place-count .ensures) r₁ in
+    (omega arith, writable block-words (p .consequent-is) (room-first _ _ r₂))
+
+pub put-if-put-alt-order-requires : need.put-if-put-alt-order-requires
+put-if-put-alt-order-requires t c κs =
+    let p = if-parts (slots (c .args .arena .now)) (top-value (value-slots (c .args .arena .now .inner))) (block-in (c .args .depth) (c .args .arena .now)) (c .args .test) (c .args .consequent) (c .args .alternate) (c .args .id) (c .pre .what) (c .pre .stands) in
+    let r₀ = room-of (c .pre) (if (c .args .test) (p .consequent) (p .alternate) (c .args .id)) (p .is) in
+    let r₁ = room-rest _ (c .put-word-place .ensures) r₀ in
+    let r₂ = room-rest _ (c .put-place-count .ensures) r₁ in
+    let r₃ = room-rest _ (c .put-block-option .ensures .wrote _ (p .consequent-is)) r₂ in
+    (omega arith, writable opt-block-words (p .alternate-is) (room-first _ _ r₃))
+
+pub put-if-put-word-requires : need.put-if-put-word-requires
+put-if-put-word-requires t c κs =
+    let p = if-parts (slots (c .args .arena .now)) (top-value (value-slots (c .args .arena .now .inner))) (block-in (c .args .depth) (c .args .arena .now)) (c .args .test) (c .args .consequent) (c .args .alternate) (c .args .id) (c .pre .what) (c .pre .stands) in
+    let r₀ = room-of (c .pre) (if (c .args .test) (p .consequent) (p .alternate) (c .args .id)) (p .is) in
+    let r₁ = room-rest _ (c .put-word-place .ensures) r₀ in
+    let r₂ = room-rest _ (c .put-place-count .ensures) r₁ in
+    let r₃ = room-rest _ (c .put-block-option .ensures .wrote _ (p .consequent-is)) r₂ in
+    let r₄ = room-rest _ (c .put-alt-order .ensures .wrote _ (p .alternate-is)) r₃ in
+    room-word r₄
+
+pub put-if-returns : need.put-if-returns
+put-if-returns t c =
+    let p = if-parts (slots (c .args .arena .now)) (top-value (value-slots (c .args .arena .now .inner))) (block-in (c .args .depth) (c .args .arena .now)) (c .args .test) (c .args .consequent) (c .args .alternate) (c .args .id) (c .pre .what) (c .pre .stands) in
+    written (c .pre) (if (c .args .test) (p .consequent) (p .alternate) (c .args .id)) (p .is) (wrote-more (c .put-word-place .ensures) (wrote-more (c .put-place-count .ensures) (wrote-more (c .put-block-option .ensures .wrote _ (p .consequent-is)) (wrote-more (c .put-alt-order .ensures .wrote _ (p .alternate-is)) (c .put-word .ensures)))))
+
+pub put-labeled-put-word-count-requires : need.put-labeled-put-word-count-requires
+put-labeled-put-word-count-requires t c κs =
+    let p = label-parts (slots (c .args .arena .now)) (top-value (value-slots (c .args .arena .now .inner))) (block-in (c .args .depth) (c .args .arena .now)) (c .args .block) (c .args .id) (c .pre .what) (c .pre .stands) in
+    let r₀ = room-of (c .pre) (label (p .body) (c .args .id)) (p .is) in
+    room-word r₀
+
+pub put-labeled-put-block-order-requires : need.put-labeled-put-block-order-requires
+put-labeled-put-block-order-requires t c κs =
+    let p = label-parts (slots (c .args .arena .now)) (top-value (value-slots (c .args .arena .now .inner))) (block-in (c .args .depth) (c .args .arena .now)) (c .args .block) (c .args .id) (c .pre .what) (c .pre .stands) in
+    let r₀ = room-of (c .pre) (label (p .body) (c .args .id)) (p .is) in
+    let r₁ = room-rest _ (c .put-word-count .ensures) r₀ in
+    (omega arith, writable block-words (p .body-is) (room-first _ _ r₁))
+
+pub put-labeled-put-word-requires : need.put-labeled-put-word-requires
+put-labeled-put-word-requires t c κs =
+    let p = label-parts (slots (c .args .arena .now)) (top-value (value-slots (c .args .arena .now .inner))) (block-in (c .args .depth) (c .args .arena .now)) (c .args .block) (c .args .id) (c .pre .what) (c .pre .stands) in
+    let r₀ = room-of (c .pre) (label (p .body) (c .args .id)) (p .is) in
+    let r₁ = room-rest _ (c .put-word-count .ensures) r₀ in
+    let r₂ = room-rest _ (c .put-block-order .ensures .wrote _ (p .body-is)) r₁ in
+    room-word r₂
+
+pub put-labeled-returns : need.put-labeled-returns
+put-labeled-returns t c =
+    let p = label-parts (slots (c .args .arena .now)) (top-value (value-slots (c .args .arena .now .inner))) (block-in (c .args .depth) (c .args .arena .now)) (c .args .block) (c .args .id) (c .pre .what) (c .pre .stands) in
+    written (c .pre) (label (p .body) (c .args .id)) (p .is) (wrote-more (c .put-word-count .ensures) (wrote-more (c .put-block-order .ensures .wrote _ (p .body-is)) (c .put-word .ensures)))
+
+pub put-try-put-word-first-requires : need.put-try-put-word-first-requires
+put-try-put-word-first-requires t c κs =
+    let p = try-parts (slots (c .args .arena .now)) (top-value (value-slots (c .args .arena .now .inner))) (block-in (c .args .depth) (c .args .arena .now)) (c .args .block) (c .args .binding) (c .args .handler) (c .args .id) (c .pre .what) (c .pre .stands) in
+    let r₀ = room-of (c .pre) (try (p .body) (c .args .binding) (p .handler) (c .args .id)) (p .is) in
+    room-word r₀
+
+pub put-try-put-block-option-requires : need.put-try-put-block-option-requires
+put-try-put-block-option-requires t c κs =
+    let p = try-parts (slots (c .args .arena .now)) (top-value (value-slots (c .args .arena .now .inner))) (block-in (c .args .depth) (c .args .arena .now)) (c .args .block) (c .args .binding) (c .args .handler) (c .args .id) (c .pre .what) (c .pre .stands) in
+    let r₀ = room-of (c .pre) (try (p .body) (c .args .binding) (p .handler) (c .args .id)) (p .is) in
+    let r₁ = room-rest _ (c .put-word-first .ensures) r₀ in
+    (omega arith, writable block-words (p .body-is) (room-first _ _ r₁))
+
+pub put-try-put-opt-place-second-requires : need.put-try-put-opt-place-second-requires
+put-try-put-opt-place-second-requires t c κs =
+    let p = try-parts (slots (c .args .arena .now)) (top-value (value-slots (c .args .arena .now .inner))) (block-in (c .args .depth) (c .args .arena .now)) (c .args .block) (c .args .binding) (c .args .handler) (c .args .id) (c .pre .what) (c .pre .stands) in
+    let r₀ = room-of (c .pre) (try (p .body) (c .args .binding) (p .handler) (c .args .id)) (p .is) in
+    let r₁ = room-rest _ (c .put-word-first .ensures) r₀ in
+    let r₂ = room-rest _ (c .put-block-option .ensures .wrote _ (p .body-is)) r₁ in
+    room-first _ _ r₂
+
+pub put-try-put-block-order-requires : need.put-try-put-block-order-requires
+put-try-put-block-order-requires t c κs =
+    let p = try-parts (slots (c .args .arena .now)) (top-value (value-slots (c .args .arena .now .inner))) (block-in (c .args .depth) (c .args .arena .now)) (c .args .block) (c .args .binding) (c .args .handler) (c .args .id) (c .pre .what) (c .pre .stands) in
+    let r₀ = room-of (c .pre) (try (p .body) (c .args .binding) (p .handler) (c .args .id)) (p .is) in
+    let r₁ = room-rest _ (c .put-word-first .ensures) r₀ in
+    let r₂ = room-rest _ (c .put-block-option .ensures .wrote _ (p .body-is)) r₁ in
+    let r₃ = room-rest _ (c .put-opt-place-second .ensures) r₂ in
+    (omega arith, writable block-words (p .handler-is) (room-first _ _ r₃))
+
+pub put-try-put-word-requires : need.put-try-put-word-requires
+put-try-put-word-requires t c κs =
+    let p = try-parts (slots (c .args .arena .now)) (top-value (value-slots (c .args .arena .now .inner))) (block-in (c .args .depth) (c .args .arena .now)) (c .args .block) (c .args .binding) (c .args .handler) (c .args .id) (c .pre .what) (c .pre .stands) in
+    let r₀ = room-of (c .pre) (try (p .body) (c .args .binding) (p .handler) (c .args .id)) (p .is) in
+    let r₁ = room-rest _ (c .put-word-first .ensures) r₀ in
+    let r₂ = room-rest _ (c .put-block-option .ensures .wrote _ (p .body-is)) r₁ in
+    let r₃ = room-rest _ (c .put-opt-place-second .ensures) r₂ in
+    let r₄ = room-rest _ (c .put-block-order .ensures .wrote _ (p .handler-is)) r₃ in
+    room-word r₄
+
+pub put-try-returns : need.put-try-returns
+put-try-returns t c =
+    let p = try-parts (slots (c .args .arena .now)) (top-value (value-slots (c .args .arena .now .inner))) (block-in (c .args .depth) (c .args .arena .now)) (c .args .block) (c .args .binding) (c .args .handler) (c .args .id) (c .pre .what) (c .pre .stands) in
+    written (c .pre) (try (p .body) (c .args .binding) (p .handler) (c .args .id)) (p .is) (wrote-more (c .put-word-first .ensures) (wrote-more (c .put-block-option .ensures .wrote _ (p .body-is)) (wrote-more (c .put-opt-place-second .ensures) (wrote-more (c .put-block-order .ensures .wrote _ (p .handler-is)) (c .put-word .ensures)))))
+
+pub put-switch-put-word-place-requires : need.put-switch-put-word-place-requires
+put-switch-put-word-place-requires t c κs =
+    let p = switch-parts (slots (c .args .arena .now)) (top-value (value-slots (c .args .arena .now .inner))) (block-in (c .args .depth) (c .args .arena .now)) (c .args .test) (c .args .cases) (c .args .id) (c .pre .what) (c .pre .stands) in
+    let r₀ = room-of (c .pre) (switch (c .args .test) (p .cases) (c .args .id)) (p .is) in
+    room-word r₀
+
+pub put-switch-put-place-count-requires : need.put-switch-put-place-count-requires
+put-switch-put-place-count-requires t c κs =
+    let p = switch-parts (slots (c .args .arena .now)) (top-value (value-slots (c .args .arena .now .inner))) (block-in (c .args .depth) (c .args .arena .now)) (c .args .test) (c .args .cases) (c .args .id) (c .pre .what) (c .pre .stands) in
+    let r₀ = room-of (c .pre) (switch (c .args .test) (p .cases) (c .args .id)) (p .is) in
+    let r₁ = room-rest _ (c .put-word-place .ensures) r₀ in
+    room-first _ _ r₁
+
+pub put-switch-put-word-first-requires : need.put-switch-put-word-first-requires
+put-switch-put-word-first-requires t c κs =
+    let p = switch-parts (slots (c .args .arena .now)) (top-value (value-slots (c .args .arena .now .inner))) (block-in (c .args .depth) (c .args .arena .now)) (c .args .test) (c .args .cases) (c .args .id) (c .pre .what) (c .pre .stands) in
+    let r₀ = room-of (c .pre) (switch (c .args .test) (p .cases) (c .args .id)) (p .is) in
+    let r₁ = room-rest _ (c .put-word-place .ensures) r₀ in
+    let r₂ = room-rest _ (c .put-place-count .ensures) r₁ in
+    room-word r₂
+
+pub put-switch-put-cases-order-requires : need.put-switch-put-cases-order-requires
+put-switch-put-cases-order-requires t c κs =
+    let p = switch-parts (slots (c .args .arena .now)) (top-value (value-slots (c .args .arena .now .inner))) (block-in (c .args .depth) (c .args .arena .now)) (c .args .test) (c .args .cases) (c .args .id) (c .pre .what) (c .pre .stands) in
+    let r₀ = room-of (c .pre) (switch (c .args .test) (p .cases) (c .args .id)) (p .is) in
+    let r₁ = room-rest _ (c .put-word-place .ensures) r₀ in
+    let r₂ = room-rest _ (c .put-place-count .ensures) r₁ in
+    let r₃ = room-rest _ (word-as (sym (p .count-is)) (c .put-word-first .ensures)) r₂ in
+    (omega arith, (omega (arith, p .inside, c .args .arena .now .cases .ok .0), writable cases-words (p .cases-are) (room-first _ _ r₃)))
+
+pub put-switch-put-word-requires : need.put-switch-put-word-requires
+put-switch-put-word-requires t c κs =
+    let p = switch-parts (slots (c .args .arena .now)) (top-value (value-slots (c .args .arena .now .inner))) (block-in (c .args .depth) (c .args .arena .now)) (c .args .test) (c .args .cases) (c .args .id) (c .pre .what) (c .pre .stands) in
+    let r₀ = room-of (c .pre) (switch (c .args .test) (p .cases) (c .args .id)) (p .is) in
+    let r₁ = room-rest _ (c .put-word-place .ensures) r₀ in
+    let r₂ = room-rest _ (c .put-place-count .ensures) r₁ in
+    let r₃ = room-rest _ (word-as (sym (p .count-is)) (c .put-word-first .ensures)) r₂ in
+    let r₄ = room-rest _ (c .put-cases-order .ensures .wrote _ (p .cases-are)) r₃ in
+    room-word r₄
+
+pub put-switch-returns : need.put-switch-returns
+put-switch-returns t c =
+    let p = switch-parts (slots (c .args .arena .now)) (top-value (value-slots (c .args .arena .now .inner))) (block-in (c .args .depth) (c .args .arena .now)) (c .args .test) (c .args .cases) (c .args .id) (c .pre .what) (c .pre .stands) in
+    written (c .pre) (switch (c .args .test) (p .cases) (c .args .id)) (p .is) (wrote-more (c .put-word-place .ensures) (wrote-more (c .put-place-count .ensures) (wrote-more (word-as (sym (p .count-is)) (c .put-word-first .ensures)) (wrote-more (c .put-cases-order .ensures .wrote _ (p .cases-are)) (c .put-word .ensures)))))
+
+pub put-terminal-put-word-case-requires : need.put-terminal-put-word-case-requires
+put-terminal-put-word-case-requires t c κs =
+    let p = terminal-parts (slots (c .args .arena .now)) (top-value (value-slots (c .args .arena .now .inner))) (block-in (c .args .depth) (c .args .arena .now)) (c .args .statement) (c .pre .what) (c .pre .stands) in
+    let r₀ = room-of (c .pre) (terminal (p .term) (c .args .statement .label)) (p .is) in
+    room-word r₀
+
+pub put-terminal-put-term-label-requires : need.put-terminal-put-term-label-requires
+put-terminal-put-term-label-requires t c κs =
+    let p = terminal-parts (slots (c .args .arena .now)) (top-value (value-slots (c .args .arena .now .inner))) (block-in (c .args .depth) (c .args .arena .now)) (c .args .statement) (c .pre .what) (c .pre .stands) in
+    let r₀ = room-of (c .pre) (terminal (p .term) (c .args .statement .label)) (p .is) in
+    let r₁ = room-rest _ (c .put-word-case .ensures) r₀ in
+    (omega arith, writable term-words (p .term-is) (room-first _ _ r₁))
+
+pub put-terminal-put-label-requires : need.put-terminal-put-label-requires
+put-terminal-put-label-requires t c κs =
+    let p = terminal-parts (slots (c .args .arena .now)) (top-value (value-slots (c .args .arena .now .inner))) (block-in (c .args .depth) (c .args .arena .now)) (c .args .statement) (c .pre .what) (c .pre .stands) in
+    let r₀ = room-of (c .pre) (terminal (p .term) (c .args .statement .label)) (p .is) in
+    let r₁ = room-rest _ (c .put-word-case .ensures) r₀ in
+    let r₂ = room-rest _ (c .put-term-label .ensures .wrote _ (p .term-is)) r₁ in
+    r₂
+
+pub put-terminal-returns : need.put-terminal-returns
+put-terminal-returns t c =
+    let p = terminal-parts (slots (c .args .arena .now)) (top-value (value-slots (c .args .arena .now .inner))) (block-in (c .args .depth) (c .args .arena .now)) (c .args .statement) (c .pre .what) (c .pre .stands) in
+    written (c .pre) (terminal (p .term) (c .args .statement .label)) (p .is) (wrote-more (c .put-word-case .ensures) (wrote-more (c .put-term-label .ensures .wrote _ (p .term-is)) (c .put-label .ensures)))
+
+pub put-scope-put-word-second-requires : need.put-scope-put-word-second-requires
+put-scope-put-word-second-requires t c κs =
+    let r₀ = room-of (c .pre) (c .pre .what) (refl) in
+    room-word r₀
+
+pub put-scope-put-word-count-requires : need.put-scope-put-word-count-requires
+put-scope-put-word-count-requires t c κs =
+    let r₀ = room-of (c .pre) (c .pre .what) (refl) in
+    let r₁ = room-rest _ (c .put-word-second .ensures) r₀ in
+    room-word r₁
+
+pub put-scope-put-block-requires : need.put-scope-put-block-requires
+put-scope-put-block-requires t c κs =
+    let r₀ = room-of (c .pre) (c .pre .what) (refl) in
+    let r₁ = room-rest _ (c .put-word-second .ensures) r₀ in
+    let r₂ = room-rest _ (c .put-word-count .ensures) r₁ in
+    (omega arith, writable block-words (c .pre .stands) r₂)
+
+pub put-scope-returns : need.put-scope-returns
+put-scope-returns t c =
+    written (c .pre) (c .pre .what) (refl) (wrote-more (c .put-word-second .ensures) (wrote-more (c .put-word-count .ensures) (c .put-block .ensures .wrote _ (c .pre .stands))))
+
+pub put-alt-put-word-requires : need.put-alt-put-word-requires
+put-alt-put-word-requires t c κs =
+    let n = some-some (sym (ap (opt-block-of (block-in (c .args .depth) (c .args .arena .now))) (c .in-None .is)) ∙ c .pre .stands) in
+    room-word (room-of (c .pre) noBlock n)
+
+pub put-alt-put-word-count-requires : need.put-alt-put-word-count-requires
+put-alt-put-word-count-requires t c κs =
+    let p = some-block-parts (slots (c .args .arena .now)) (top-value (value-slots (c .args .arena .now .inner))) (block-in (c .args .depth) (c .args .arena .now)) (c .in-Some .block) (c .pre .what) (sym (ap (opt-block-of (block-in (c .args .depth) (c .args .arena .now))) (c .in-Some .is)) ∙ c .pre .stands) in
+    room-word (room-of (c .pre) (someBlock (p .body)) (p .is))
+
+pub put-alt-put-block-requires : need.put-alt-put-block-requires
+put-alt-put-block-requires t c κs =
+    let p = some-block-parts (slots (c .args .arena .now)) (top-value (value-slots (c .args .arena .now .inner))) (block-in (c .args .depth) (c .args .arena .now)) (c .in-Some .block) (c .pre .what) (sym (ap (opt-block-of (block-in (c .args .depth) (c .args .arena .now))) (c .in-Some .is)) ∙ c .pre .stands) in
+    (omega arith, writable block-words (p .body-is) (room-rest _ (c .put-word-count .ensures) (room-of (c .pre) (someBlock (p .body)) (p .is))))
+
+pub put-alt-returns-in-None : need.put-alt-returns-in-None
+put-alt-returns-in-None t c =
+    let n = some-some (sym (ap (opt-block-of (block-in (c .args .depth) (c .args .arena .now))) (c .in-None .is)) ∙ c .pre .stands) in
+    written (c .pre) noBlock n (c .put-word .ensures)
+
+pub put-alt-returns-in-Some : need.put-alt-returns-in-Some
+put-alt-returns-in-Some t c =
+    let p = some-block-parts (slots (c .args .arena .now)) (top-value (value-slots (c .args .arena .now .inner))) (block-in (c .args .depth) (c .args .arena .now)) (c .in-Some .block) (c .pre .what) (sym (ap (opt-block-of (block-in (c .args .depth) (c .args .arena .now))) (c .in-Some .is)) ∙ c .pre .stands) in
+    written (c .pre) (someBlock (p .body)) (p .is) (wrote-more (c .put-word-count .ensures) (c .put-block .ensures .wrote _ (p .body-is)))
+
+pub put-cases-returns-then-count-eq0 : need.put-cases-returns-then-count-eq0
+put-cases-returns-then-count-eq0 t c =
+    let none = ap (λ n. cases-in (c .args .depth) (c .args .arena .now) (c .args .start) n) (sym (c .if-count-eq0 .taken)) in
+    written (c .pre .room) knil (some-some (none ∙ c .pre .room .stands)) (wrote-none (c .args .out .now) (c .args .at) (omega (arith, c .pre .room .room .fits)))
+
+pub put-cases-put-opt-place-block-requires : need.put-cases-put-opt-place-block-requires
+put-cases-put-opt-place-block-requires t c κs =
+    let p = cases-parts (slots (c .args .arena .now)) (top-value (value-slots (c .args .arena .now .inner))) (block-in (c .args .depth) (c .args .arena .now)) (c .args .start) (c .args .count) (c .index-case .result .now) (c .pre .room .what) (omega (arith, c .pre .within, c .args .arena .now .cases .ok .0)) (c .if-count-eq0 .left) (c .index-case .ensures) (c .pre .room .stands) in
+    let r₀ = room-of (c .pre .room) (kcons (c .index-case .result .now .test) (p .body) (p .rest)) (p .is) in
+    room-first _ _ r₀
+
+pub put-cases-put-alt-next-requires : need.put-cases-put-alt-next-requires
+put-cases-put-alt-next-requires t c κs =
+    let p = cases-parts (slots (c .args .arena .now)) (top-value (value-slots (c .args .arena .now .inner))) (block-in (c .args .depth) (c .args .arena .now)) (c .args .start) (c .args .count) (c .index-case .result .now) (c .pre .room .what) (omega (arith, c .pre .within, c .args .arena .now .cases .ok .0)) (c .if-count-eq0 .left) (c .index-case .ensures) (c .pre .room .stands) in
+    let r₀ = room-of (c .pre .room) (kcons (c .index-case .result .now .test) (p .body) (p .rest)) (p .is) in
+    let r₁ = room-rest _ (c .put-opt-place-block .ensures) r₀ in
+    (omega arith, writable opt-block-words (p .body-is) (room-first _ _ r₁))
+
+pub put-cases-put-cases-requires : need.put-cases-put-cases-requires
+put-cases-put-cases-requires t c κs =
+    let p = cases-parts (slots (c .args .arena .now)) (top-value (value-slots (c .args .arena .now .inner))) (block-in (c .args .depth) (c .args .arena .now)) (c .args .start) (c .args .count) (c .index-case .result .now) (c .pre .room .what) (omega (arith, c .pre .within, c .args .arena .now .cases .ok .0)) (c .if-count-eq0 .left) (c .index-case .ensures) (c .pre .room .stands) in
+    let r₀ = room-of (c .pre .room) (kcons (c .index-case .result .now .test) (p .body) (p .rest)) (p .is) in
+    let r₁ = room-rest _ (c .put-opt-place-block .ensures) r₀ in
+    let r₂ = room-rest _ (c .put-alt-next .ensures .wrote _ (p .body-is)) r₁ in
+    (omega arith, (omega arith, writable cases-words (p .rest-are) r₂))
+
+pub put-cases-returns : need.put-cases-returns
+put-cases-returns t c =
+    let p = cases-parts (slots (c .args .arena .now)) (top-value (value-slots (c .args .arena .now .inner))) (block-in (c .args .depth) (c .args .arena .now)) (c .args .start) (c .args .count) (c .index-case .result .now) (c .pre .room .what) (omega (arith, c .pre .within, c .args .arena .now .cases .ok .0)) (c .if-count-eq0 .left) (c .index-case .ensures) (c .pre .room .stands) in
+    written (c .pre .room) (kcons (c .index-case .result .now .test) (p .body) (p .rest)) (p .is) (wrote-more (c .put-opt-place-block .ensures) (wrote-more (c .put-alt-next .ensures .wrote _ (p .body-is)) (c .put-cases .ensures .wrote _ (p .rest-are))))
+
+pub put-stmts-returns-then-count-eq0 : need.put-stmts-returns-then-count-eq0
+put-stmts-returns-then-count-eq0 t c =
+    let none = ap (λ n. body-in (c .args .depth) (c .args .arena .now) (c .args .start) n) (sym (c .if-count-eq0 .taken)) in
+    written (c .pre .room) nil (some-some (none ∙ c .pre .room .stands)) (wrote-none (c .args .out .now) (c .args .at) (omega (arith, c .pre .room .room .fits)))
+
+pub put-stmts-put-stmt-next-requires : need.put-stmts-put-stmt-next-requires
+put-stmts-put-stmt-next-requires t c κs =
+    let p = body-parts (slot-in (c .args .depth) (c .args .arena .now)) (vec-items (c .args .arena .now .entries)) (c .args .start) (c .args .count) (c .index-slot .result .now) (c .pre .room .what) (omega (arith, c .pre .within, c .args .arena .now .entries .ok .0)) (c .if-count-eq0 .left) (c .index-slot .ensures) (c .pre .room .stands) in
+    let r₀ = room-of (c .pre .room) (cons (p .first) (p .rest)) (p .is) in
+    (omega arith, writable stmt-words (p .first-is) (room-first _ _ r₀))
+
+pub put-stmts-put-stmts-requires : need.put-stmts-put-stmts-requires
+put-stmts-put-stmts-requires t c κs =
+    let p = body-parts (slot-in (c .args .depth) (c .args .arena .now)) (vec-items (c .args .arena .now .entries)) (c .args .start) (c .args .count) (c .index-slot .result .now) (c .pre .room .what) (omega (arith, c .pre .within, c .args .arena .now .entries .ok .0)) (c .if-count-eq0 .left) (c .index-slot .ensures) (c .pre .room .stands) in
+    let r₀ = room-of (c .pre .room) (cons (p .first) (p .rest)) (p .is) in
+    let r₁ = room-rest _ (c .put-stmt-next .ensures .wrote _ (p .first-is)) r₀ in
+    (omega arith, (omega arith, writable body-words (p .rest-are) r₁))
+
+pub put-stmts-returns : need.put-stmts-returns
+put-stmts-returns t c =
+    let p = body-parts (slot-in (c .args .depth) (c .args .arena .now)) (vec-items (c .args .arena .now .entries)) (c .args .start) (c .args .count) (c .index-slot .result .now) (c .pre .room .what) (omega (arith, c .pre .within, c .args .arena .now .entries .ok .0)) (c .if-count-eq0 .left) (c .index-slot .ensures) (c .pre .room .stands) in
+    written (c .pre .room) (cons (p .first) (p .rest)) (p .is) (wrote-more (c .put-stmt-next .ensures .wrote _ (p .first-is)) (c .put-stmts .ensures .wrote _ (p .rest-are)))
+
+pub put-block-sub-depth : need.put-block-sub-depth
+put-block-sub-depth t c =
+    let p = block-parts (c .args .depth) (slots (c .args .arena .now)) (c .args .block) (c .pre .what) (c .pre .stands) in
+    omega (arith, p .deep)
+
+pub put-block-put-word-first-requires : need.put-block-put-word-first-requires
+put-block-put-word-first-requires t c κs =
+    let p = block-parts (c .args .depth) (slots (c .args .arena .now)) (c .args .block) (c .pre .what) (c .pre .stands) in
+    let r₀ = room-of (c .pre) (c .pre .what) (refl) in
+    room-word r₀
+
+pub put-block-put-stmts-requires : need.put-block-put-stmts-requires
+put-block-put-stmts-requires t c κs =
+    let p = block-parts (c .args .depth) (slots (c .args .arena .now)) (c .args .block) (c .pre .what) (c .pre .stands) in
+    let r₀ = room-of (c .pre) (c .pre .what) (refl) in
+    let r₁ = room-rest _ (word-as (sym (p .count-is)) (c .put-word-first .ensures)) r₀ in
+    (omega (arith, p .deep), (omega (arith, p .inside, c .args .arena .now .entries .ok .0), writable body-words (p .body) r₁))
+
+pub put-block-returns : need.put-block-returns
+put-block-returns t c =
+    let p = block-parts (c .args .depth) (slots (c .args .arena .now)) (c .args .block) (c .pre .what) (c .pre .stands) in
+    written (c .pre) (c .pre .what) (refl) (wrote-more (word-as (sym (p .count-is)) (c .put-word-first .ensures)) (c .put-stmts .ensures .wrote _ (p .body)))
+
+pub put-stmt-index-requires : need.put-stmt-index-requires
+put-stmt-index-requires t c κs = omega (arith, statement-at (c .args .depth) (c .args .arena .now) (c .args .slot) (c .pre) .inside, c .args .arena .now .statements .ok .0)
+
+pub put-stmt-put-word-next-requires : need.put-stmt-put-word-next-requires
+put-stmt-put-word-next-requires t c κs =
+    let n = statement-node (c .args .depth) (c .args .arena .now) (c .args .slot) (c .pre) (c .index .result .now) _ (c .index .ensures) (c .in-Instruction .is) in
+    let p = instruction-parts (slots (c .args .arena .now)) (top-value (value-slots (c .args .arena .now .inner))) (block-in (c .args .depth) (c .args .arena .now)) (c .in-Instruction .instruction) (c .pre .what) n in
+    room-word (room-of (c .pre) (instruction (p .one)) (p .is))
+
+pub put-stmt-put-instruction-requires : need.put-stmt-put-instruction-requires
+put-stmt-put-instruction-requires t c κs =
+    let n = statement-node (c .args .depth) (c .args .arena .now) (c .args .slot) (c .pre) (c .index .result .now) _ (c .index .ensures) (c .in-Instruction .is) in
+    let p = instruction-parts (slots (c .args .arena .now)) (top-value (value-slots (c .args .arena .now .inner))) (block-in (c .args .depth) (c .args .arena .now)) (c .in-Instruction .instruction) (c .pre .what) n in
+    writable instr-words (p .one-is) (room-rest _ (c .put-word-next .ensures) (room-of (c .pre) (instruction (p .one)) (p .is)))
+
+pub put-stmt-returns-in-Instruction : need.put-stmt-returns-in-Instruction
+put-stmt-returns-in-Instruction t c =
+    let n = statement-node (c .args .depth) (c .args .arena .now) (c .args .slot) (c .pre) (c .index .result .now) _ (c .index .ensures) (c .in-Instruction .is) in
+    let p = instruction-parts (slots (c .args .arena .now)) (top-value (value-slots (c .args .arena .now .inner))) (block-in (c .args .depth) (c .args .arena .now)) (c .in-Instruction .instruction) (c .pre .what) n in
+    written (c .pre) (instruction (p .one)) (p .is) (wrote-more (c .put-word-next .ensures) (c .put-instruction .ensures .wrote _ (p .one-is)))
+
+pub put-stmt-put-terminal-requires : need.put-stmt-put-terminal-requires
+put-stmt-put-terminal-requires t c κs =
+    let n = statement-node (c .args .depth) (c .args .arena .now) (c .args .slot) (c .pre) (c .index .result .now) _ (c .index .ensures) (c .in-Terminal .is) in
+    (omega arith, writable stmt-words n (c .pre .room))
+
+pub put-stmt-returns-in-Terminal : need.put-stmt-returns-in-Terminal
+put-stmt-returns-in-Terminal t c =
+    let n = statement-node (c .args .depth) (c .args .arena .now) (c .args .slot) (c .pre) (c .index .result .now) _ (c .index .ensures) (c .in-Terminal .is) in
+    written (c .pre) (c .pre .what) refl (c .put-terminal .ensures .wrote _ n)
+
+pub put-stmt-put-scope-requires : need.put-stmt-put-scope-requires
+put-stmt-put-scope-requires t c κs =
+    let n = statement-node (c .args .depth) (c .args .arena .now) (c .args .slot) (c .pre) (c .index .result .now) _ (c .index .ensures) (c .in-Scope .is) in
+    let p = scope-parts (slots (c .args .arena .now)) (top-value (value-slots (c .args .arena .now .inner))) (block-in (c .args .depth) (c .args .arena .now)) (c .in-Scope .block) (c .pre .what) n in
+    (omega arith, writable _ (p .body-is) (room-of (c .pre) (scope (c .in-Scope .block .scope) (p .body)) (p .is)))
+
+pub put-stmt-returns-in-Scope : need.put-stmt-returns-in-Scope
+put-stmt-returns-in-Scope t c =
+    let n = statement-node (c .args .depth) (c .args .arena .now) (c .args .slot) (c .pre) (c .index .result .now) _ (c .index .ensures) (c .in-Scope .is) in
+    let p = scope-parts (slots (c .args .arena .now)) (top-value (value-slots (c .args .arena .now .inner))) (block-in (c .args .depth) (c .args .arena .now)) (c .in-Scope .block) (c .pre .what) n in
+    written (c .pre) (scope (c .in-Scope .block .scope) (p .body)) (p .is) (c .put-scope .ensures .wrote _ (p .body-is))
+
+pub put-stmt-put-scope-requires-in-PrunedScope : need.put-stmt-put-scope-requires-in-PrunedScope
+put-stmt-put-scope-requires-in-PrunedScope t c κs =
+    let n = statement-node (c .args .depth) (c .args .arena .now) (c .args .slot) (c .pre) (c .index .result .now) _ (c .index .ensures) (c .in-PrunedScope .is) in
+    let p = pruned-parts (slots (c .args .arena .now)) (top-value (value-slots (c .args .arena .now .inner))) (block-in (c .args .depth) (c .args .arena .now)) (c .in-PrunedScope .block) (c .pre .what) n in
+    (omega arith, writable _ (p .body-is) (room-of (c .pre) (pruned (c .in-PrunedScope .block .scope) (p .body)) (p .is)))
+
+pub put-stmt-returns-in-PrunedScope : need.put-stmt-returns-in-PrunedScope
+put-stmt-returns-in-PrunedScope t c =
+    let n = statement-node (c .args .depth) (c .args .arena .now) (c .args .slot) (c .pre) (c .index .result .now) _ (c .index .ensures) (c .in-PrunedScope .is) in
+    let p = pruned-parts (slots (c .args .arena .now)) (top-value (value-slots (c .args .arena .now .inner))) (block-in (c .args .depth) (c .args .arena .now)) (c .in-PrunedScope .block) (c .pre .what) n in
+    written (c .pre) (pruned (c .in-PrunedScope .block .scope) (p .body)) (p .is) (c .put-scope-in-PrunedScope .ensures .wrote _ (p .body-is))
+
+pub put-term-put-jump-requires : need.put-term-put-jump-requires
+put-term-put-jump-requires t c κs =
+    let n = sym (ap (terminal-in (c .args .depth) (c .args .arena .now)) (c .in-Break .is)) ∙ c .pre .stands in
+    room-of (c .pre) (break (c .in-Break .target) (c .in-Break .id) (c .in-Break .target-kind)) (some-some n)
+
+pub put-term-returns-in-Break : need.put-term-returns-in-Break
+put-term-returns-in-Break t c =
+    let n = sym (ap (terminal-in (c .args .depth) (c .args .arena .now)) (c .in-Break .is)) ∙ c .pre .stands in
+    written (c .pre) (break (c .in-Break .target) (c .in-Break .id) (c .in-Break .target-kind)) (some-some n) (c .put-jump .ensures)
+
+pub put-term-put-jump-requires-in-Continue : need.put-term-put-jump-requires-in-Continue
+put-term-put-jump-requires-in-Continue t c κs =
+    let n = sym (ap (terminal-in (c .args .depth) (c .args .arena .now)) (c .in-Continue .is)) ∙ c .pre .stands in
+    room-of (c .pre) (continue (c .in-Continue .target) (c .in-Continue .id) (c .in-Continue .target-kind)) (some-some n)
+
+pub put-term-returns-in-Continue : need.put-term-returns-in-Continue
+put-term-returns-in-Continue t c =
+    let n = sym (ap (terminal-in (c .args .depth) (c .args .arena .now)) (c .in-Continue .is)) ∙ c .pre .stands in
+    written (c .pre) (continue (c .in-Continue .target) (c .in-Continue .id) (c .in-Continue .target-kind)) (some-some n) (c .put-jump-in-Continue .ensures)
+
+pub put-term-put-leave-requires : need.put-term-put-leave-requires
+put-term-put-leave-requires t c κs =
+    let n = sym (ap (terminal-in (c .args .depth) (c .args .arena .now)) (c .in-Return .is)) ∙ c .pre .stands in
+    room-of (c .pre) (return (c .in-Return .value) (c .in-Return .id)) (some-some n)
+
+pub put-term-returns-in-Return : need.put-term-returns-in-Return
+put-term-returns-in-Return t c =
+    let n = sym (ap (terminal-in (c .args .depth) (c .args .arena .now)) (c .in-Return .is)) ∙ c .pre .stands in
+    written (c .pre) (return (c .in-Return .value) (c .in-Return .id)) (some-some n) (c .put-leave .ensures)
+
+pub put-term-put-leave-requires-in-Throw : need.put-term-put-leave-requires-in-Throw
+put-term-put-leave-requires-in-Throw t c κs =
+    let n = sym (ap (terminal-in (c .args .depth) (c .args .arena .now)) (c .in-Throw .is)) ∙ c .pre .stands in
+    room-of (c .pre) (throw (c .in-Throw .value) (c .in-Throw .id)) (some-some n)
+
+pub put-term-returns-in-Throw : need.put-term-returns-in-Throw
+put-term-returns-in-Throw t c =
+    let n = sym (ap (terminal-in (c .args .depth) (c .args .arena .now)) (c .in-Throw .is)) ∙ c .pre .stands in
+    written (c .pre) (throw (c .in-Throw .value) (c .in-Throw .id)) (some-some n) (c .put-leave-in-Throw .ensures)
+
+pub put-term-put-switch-requires : need.put-term-put-switch-requires
+put-term-put-switch-requires t c κs =
+    let n = sym (ap (terminal-in (c .args .depth) (c .args .arena .now)) (c .in-Switch .is)) ∙ c .pre .stands in
+    (omega arith, writable term-words n (c .pre .room))
+
+pub put-term-returns-in-Switch : need.put-term-returns-in-Switch
+put-term-returns-in-Switch t c =
+    let n = sym (ap (terminal-in (c .args .depth) (c .args .arena .now)) (c .in-Switch .is)) ∙ c .pre .stands in
+    written (c .pre) (c .pre .what) refl (c .put-switch .ensures .wrote _ n)
+
+pub put-term-put-do-while-requires : need.put-term-put-do-while-requires
+put-term-put-do-while-requires t c κs =
+    let n = sym (ap (terminal-in (c .args .depth) (c .args .arena .now)) (c .in-DoWhile .is)) ∙ c .pre .stands in
+    (omega arith, writable term-words n (c .pre .room))
+
+pub put-term-returns-in-DoWhile : need.put-term-returns-in-DoWhile
+put-term-returns-in-DoWhile t c =
+    let n = sym (ap (terminal-in (c .args .depth) (c .args .arena .now)) (c .in-DoWhile .is)) ∙ c .pre .stands in
+    written (c .pre) (c .pre .what) refl (c .put-do-while .ensures .wrote _ n)
+
+pub put-term-put-while-requires : need.put-term-put-while-requires
+put-term-put-while-requires t c κs =
+    let n = sym (ap (terminal-in (c .args .depth) (c .args .arena .now)) (c .in-While .is)) ∙ c .pre .stands in
+    (omega arith, writable term-words n (c .pre .room))
+
+pub put-term-returns-in-While : need.put-term-returns-in-While
+put-term-returns-in-While t c =
+    let n = sym (ap (terminal-in (c .args .depth) (c .args .arena .now)) (c .in-While .is)) ∙ c .pre .stands in
+    written (c .pre) (c .pre .what) refl (c .put-while .ensures .wrote _ n)
+
+pub put-term-put-for-requires : need.put-term-put-for-requires
+put-term-put-for-requires t c κs =
+    let n = sym (ap (terminal-in (c .args .depth) (c .args .arena .now)) (c .in-For .is)) ∙ c .pre .stands in
+    (omega arith, writable term-words n (c .pre .room))
+
+pub put-term-returns-in-For : need.put-term-returns-in-For
+put-term-returns-in-For t c =
+    let n = sym (ap (terminal-in (c .args .depth) (c .args .arena .now)) (c .in-For .is)) ∙ c .pre .stands in
+    written (c .pre) (c .pre .what) refl (c .put-for .ensures .wrote _ n)
+
+pub put-term-put-for-of-requires : need.put-term-put-for-of-requires
+put-term-put-for-of-requires t c κs =
+    let n = sym (ap (terminal-in (c .args .depth) (c .args .arena .now)) (c .in-ForOf .is)) ∙ c .pre .stands in
+    (omega arith, writable term-words n (c .pre .room))
+
+pub put-term-returns-in-ForOf : need.put-term-returns-in-ForOf
+put-term-returns-in-ForOf t c =
+    let n = sym (ap (terminal-in (c .args .depth) (c .args .arena .now)) (c .in-ForOf .is)) ∙ c .pre .stands in
+    written (c .pre) (c .pre .what) refl (c .put-for-of .ensures .wrote _ n)
+
+pub put-term-put-for-in-requires : need.put-term-put-for-in-requires
+put-term-put-for-in-requires t c κs =
+    let n = sym (ap (terminal-in (c .args .depth) (c .args .arena .now)) (c .in-ForIn .is)) ∙ c .pre .stands in
+    (omega arith, writable term-words n (c .pre .room))
+
+pub put-term-returns-in-ForIn : need.put-term-returns-in-ForIn
+put-term-returns-in-ForIn t c =
+    let n = sym (ap (terminal-in (c .args .depth) (c .args .arena .now)) (c .in-ForIn .is)) ∙ c .pre .stands in
+    written (c .pre) (c .pre .what) refl (c .put-for-in .ensures .wrote _ n)
+
+pub put-term-put-if-requires : need.put-term-put-if-requires
+put-term-put-if-requires t c κs =
+    let n = sym (ap (terminal-in (c .args .depth) (c .args .arena .now)) (c .in-If .is)) ∙ c .pre .stands in
+    (omega arith, writable term-words n (c .pre .room))
+
+pub put-term-returns-in-If : need.put-term-returns-in-If
+put-term-returns-in-If t c =
+    let n = sym (ap (terminal-in (c .args .depth) (c .args .arena .now)) (c .in-If .is)) ∙ c .pre .stands in
+    written (c .pre) (c .pre .what) refl (c .put-if .ensures .wrote _ n)
+
+pub put-term-put-labeled-requires : need.put-term-put-labeled-requires
+put-term-put-labeled-requires t c κs =
+    let n = sym (ap (terminal-in (c .args .depth) (c .args .arena .now)) (c .in-Label .is)) ∙ c .pre .stands in
+    (omega arith, writable term-words n (c .pre .room))
+
+pub put-term-returns-in-Label : need.put-term-returns-in-Label
+put-term-returns-in-Label t c =
+    let n = sym (ap (terminal-in (c .args .depth) (c .args .arena .now)) (c .in-Label .is)) ∙ c .pre .stands in
+    written (c .pre) (c .pre .what) refl (c .put-labeled .ensures .wrote _ n)
+
+pub put-term-put-try-requires : need.put-term-put-try-requires
+put-term-put-try-requires t c κs =
+    let n = sym (ap (terminal-in (c .args .depth) (c .args .arena .now)) (c .in-Try .is)) ∙ c .pre .stands in
+    (omega arith, writable term-words n (c .pre .room))
+
+pub put-term-returns-in-Try : need.put-term-returns-in-Try
+put-term-returns-in-Try t c =
+    let n = sym (ap (terminal-in (c .args .depth) (c .args .arena .now)) (c .in-Try .is)) ∙ c .pre .stands in
+    written (c .pre) (c .pre .what) refl (c .put-try .ensures .wrote _ n)
