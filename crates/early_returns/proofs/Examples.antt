@@ -2,6 +2,7 @@
 use mathlib.Core.Path.{_≡_, refl, _∙_}
 use mathlib.Core.List.{List, [], _∷_}
 use Prim.Native.Nat.{ℕ}
+use Rattle.hir.specs.Encode.{encode}
 use Rattle.host.specs.Asked.{Asked, asked, fixed}
 use Rattle.semantics.specs.Machine.{Meaning, look, put, branch, bind, handle, mapOut, enter, leave, onReply, ask, tick, iter}
 use Rattle.semantics.specs.Exec.{class, records-of, exec, ran}
@@ -11,13 +12,13 @@ use Rattle.early_returns.specs.Examples.{scopes-in-terminals, Lowers, Runs, Ex
 use Rattle.early_returns.proofs.PassIsDescription.{once-described}
 
 description-lowers : Lowers lowered
-unfolding lowered records-of change
-description-lowers = record { in-a-scope = refl; in-no-scope = refl; in-pruned-scopes = refl; in-a-pruned-scope-in-a-scope = refl; in-two-scopes = refl; in-a-scope-in-a-scope = refl; in-a-recorded-scope = refl; in-a-recorded-scope-in-a-scope = refl; in-every-terminal-in-a-scope = refl; in-a-scope-in-every-terminal = refl }
+unfolding lowered records-of change encode
+description-lowers = record { in-a-scope = refl; in-words = refl; in-no-scope = refl; in-pruned-scopes = refl; in-a-pruned-scope-in-a-scope = refl; in-two-scopes = refl; in-a-scope-in-a-scope = refl; in-a-recorded-scope = refl; in-a-recorded-scope-in-a-scope = refl; in-every-terminal-in-a-scope = refl; in-a-scope-in-every-terminal = refl }
 
 -- the last one would take too long to compute
 pass-lowers : Lowers propagate-early-returns
-unfolding propagate-early-returns records-of change
-pass-lowers = record { in-a-scope = refl; in-no-scope = refl; in-pruned-scopes = refl; in-a-pruned-scope-in-a-scope = refl; in-two-scopes = refl; in-a-scope-in-a-scope = refl; in-a-recorded-scope = refl; in-a-recorded-scope-in-a-scope = refl; in-every-terminal-in-a-scope = refl; in-a-scope-in-every-terminal = once-described scopes-in-terminals (refl, (refl, (refl, (refl, (refl, (refl, (refl, (refl, (refl, (refl, (refl, tt))))))))))) ∙ description-lowers .in-a-scope-in-every-terminal }
+unfolding propagate-early-returns records-of change encode
+pass-lowers = record { in-a-scope = refl; in-words = refl; in-no-scope = refl; in-pruned-scopes = refl; in-a-pruned-scope-in-a-scope = refl; in-two-scopes = refl; in-a-scope-in-a-scope = refl; in-a-recorded-scope = refl; in-a-recorded-scope-in-a-scope = refl; in-every-terminal-in-a-scope = refl; in-a-scope-in-every-terminal = once-described scopes-in-terminals (refl, (refl, (refl, (refl, (refl, (refl, (refl, (refl, (refl, (refl, (refl, tt))))))))))) ∙ description-lowers .in-a-scope-in-every-terminal }
 
 abbrev question : ℕ → ℕ → List ℕ → Asked
 question kind payload values = asked (record { kind = kind; payload = payload; position = 0 }) values
@@ -34,4 +35,5 @@ runs-hold S = record {
 }
 
 pub examples-hold : (S : Type 0) → Examples S
-examples-hold S = record { published = pass-lowers; described = description-lowers; runs = runs-hold S }
+unfolding encode
+examples-hold S = record { before-in-words = refl; published = pass-lowers; described = description-lowers; runs = runs-hold S }

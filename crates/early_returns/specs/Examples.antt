@@ -17,6 +17,7 @@ use Rattle.hir.specs.declared.environment.IdentifierName.the-variants.{Named, P
 use Rattle.hir.specs.declared.environment.ReactiveScopeEarlyReturn.{ReactiveScopeEarlyReturn}
 use Rattle.hir.specs.declared.environment.ReactiveScopeDeclaration.{ReactiveScopeDeclaration}
 use Rattle.hir.specs.Tree.{Val, operation, Op, instr, OptVal, noVal, Stmt, instruction, scope, pruned, terminal, Term, break, return, switch, doWhile, while, for, forOf, forIn, if, label, try, Cases, knil, kcons, OptBlock, someBlock, Block, nil, cons, ScopeInfo, Function}
+use Rattle.hir.specs.Encode.{encode}
 use Rattle.semantics.specs.Machine.{Meaning}
 use Rattle.semantics.specs.Exec.{exec, ran}
 use Rattle.semantics.specs.declared.Outcome.{Outcome}
@@ -100,6 +101,31 @@ return-in-scope-lowered = record {
           (cons (does None 4 2 (place 1 Capture true 9 ∷ []) (place 0 Read true 9 ∷ []) 9)
           (cons (terminal (break 7 0 Labeled) None) nil)) 0) (Some (record { id = 7; implicit = false }))) nil))))))) nil;
 }
+
+-- both as the words of a file: the pairs, the counters, the identifiers, the scopes and the body
+abbrev pub words-before : List ℕ
+words-before =
+    8 ∷ 3 ∷ 11 ∷ 8 ∷ 19 ∷ 2 ∷ 21 ∷ 12
+    ∷ 7 ∷ 1 ∷ 1
+    ∷ 0 ∷ 1 ∷ 0 ∷ 40 ∷ 0 ∷ 0 ∷ 0 ∷ 9
+    ∷ 0 ∷ 0
+    ∷ 1 ∷ 2 ∷ 0 ∷ 1 ∷ 1 ∷ 2 ∷ 0 ∷ 2 ∷ 1 ∷ 9 ∷ 5 ∷ 0
+    ∷ []
+
+abbrev pub words-after : List ℕ
+words-after =
+    8 ∷ 3 ∷ 11 ∷ 40 ∷ 51 ∷ 8 ∷ 59 ∷ 125
+    ∷ 8 ∷ 6 ∷ 6
+    ∷ 0 ∷ 1 ∷ 0 ∷ 40 ∷ 0 ∷ 0 ∷ 0 ∷ 9 ∷ 1 ∷ 1 ∷ 1 ∷ 1 ∷ 1 ∷ 0 ∷ 1 ∷ 9 ∷ 2 ∷ 0 ∷ 2 ∷ 0 ∷ 2 ∷ 9 ∷ 3 ∷ 0 ∷ 3 ∷ 0 ∷ 3 ∷ 9 ∷ 4 ∷ 0 ∷ 4 ∷ 0 ∷ 4 ∷ 9 ∷ 5 ∷ 0 ∷ 5 ∷ 0 ∷ 5 ∷ 9
+    ∷ 1 ∷ 1 ∷ 9 ∷ 7 ∷ 1 ∷ 1 ∷ 1 ∷ 0
+    ∷ 1 ∷ 2 ∷ 0 ∷ 6 ∷ 0 ∷ 0 ∷ 1 ∷ 3 ∷ 0 ∷ 0 ∷ 0 ∷ 0 ∷ 28 ∷ 1 ∷ 0 ∷ 0 ∷ 9 ∷ 9
+    ∷ 0 ∷ 0 ∷ 1 ∷ 4 ∷ 0 ∷ 0 ∷ 0 ∷ 0 ∷ 23 ∷ 2 ∷ 0 ∷ 1 ∷ 3 ∷ 0 ∷ 0 ∷ 0 ∷ 9 ∷ 9
+    ∷ 0 ∷ 0 ∷ 1 ∷ 5 ∷ 0 ∷ 0 ∷ 0 ∷ 0 ∷ 7 ∷ 3 ∷ 0 ∷ 0 ∷ 9 ∷ 9
+    ∷ 0 ∷ 0 ∷ 1 ∷ 2 ∷ 0 ∷ 0 ∷ 0 ∷ 0 ∷ 12 ∷ 0 ∷ 0 ∷ 3 ∷ 3 ∷ 0 ∷ 0 ∷ 0 ∷ 4 ∷ 0 ∷ 0 ∷ 0 ∷ 5 ∷ 0 ∷ 0 ∷ 0 ∷ 9 ∷ 9
+    ∷ 0 ∷ 0 ∷ 0 ∷ 0 ∷ 4 ∷ 1 ∷ 1 ∷ 1 ∷ 5 ∷ 1 ∷ 9 ∷ 1 ∷ 2 ∷ 0 ∷ 0 ∷ 0 ∷ 9 ∷ 9
+    ∷ 1 ∷ 11 ∷ 2 ∷ 0 ∷ 0 ∷ 0 ∷ 0 ∷ 4 ∷ 2 ∷ 1 ∷ 1 ∷ 3 ∷ 1 ∷ 9 ∷ 1 ∷ 0 ∷ 2 ∷ 1 ∷ 9 ∷ 9 ∷ 9
+    ∷ 1 ∷ 0 ∷ 7 ∷ 0 ∷ 1 ∷ 0 ∷ 0 ∷ 1 ∷ 7 ∷ 0
+    ∷ []
 
 -- under no scope, and under pruned scopes only
 abbrev pub return-in-no-scope : Function
@@ -191,6 +217,7 @@ scopes-in-terminals-lowered = function (counters 18 56 56)
 -- ---- the table
 pub record Lowers (lower : Function → Function) : Type 0 where
   pub in-a-scope : lower return-in-scope ≡ return-in-scope-lowered
+  pub in-words : encode (lower return-in-scope) ≡ words-after
   pub in-no-scope : lower return-in-no-scope ≡ return-in-no-scope
   pub in-pruned-scopes : lower return-in-pruned-scopes ≡ return-in-pruned-scopes
   pub in-a-pruned-scope-in-a-scope : lower (pruned-in-scope (cons (returns 0 9) nil)) ≡ pruned-in-scope-lowered
@@ -210,6 +237,7 @@ pub record Runs (S : Type 0) : Type 0 where
   pub behind : (H : Meaning S) (h : S) → ran (exec H return-in-scope-lowered 9 h (5 ∷ 0 ∷ 0 ∷ 0 ∷ 0 ∷ 0 ∷ [])) ≡ runs-so (Returned 5) 9 1 true
 
 pub record Examples (S : Type 0) : Type 0 where
+  pub before-in-words : encode return-in-scope ≡ words-before
   pub published : Lowers propagate-early-returns
   pub described : Lowers lowered
   pub runs : Runs S
