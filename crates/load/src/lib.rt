@@ -1,5 +1,8 @@
 // Loads a function file into tables.
 pub mod begins;
 pub mod items;
+pub mod operations;
+pub mod read_top;
+pub mod read_value;
 pub mod reader;
 pub mod words;
