@@ -7,3 +7,6 @@ pub mod Sections
 pub mod Counts
 pub mod Undone
 pub mod Bytes
+pub mod Finds
+pub mod Begins
+pub mod FindsValues

@@ -29,14 +29,14 @@ place-took c =
     given (ends t (on t₁ (on t₂ (on t₃ t₄)))))))))
 
 -- an optional place, and a list of places
-opt-place-same : (p : Option Place) → opt-size (λ _. some-places 1) p ≡ opt-place-size p
+pub opt-place-same : (p : Option Place) → opt-size (λ _. some-places 1) p ≡ opt-place-size p
 opt-place-same None = refl
 opt-place-same (Some p) = refl
 
 pub opt-place-took : (c : Cursor) → Comes (option place c) (λ p d. Took c d (option-words place-words p) (opt-place-size p))
 opt-place-took c = weaker (option-took place-took c) (λ p d t. sized (opt-place-same p) t)
 
-places-size : (ps : List Place) → items-size (λ _. some-places 1) ps ≡ some-places (length ps)
+pub places-size : (ps : List Place) → items-size (λ _. some-places 1) ps ≡ some-places (length ps)
 places-size [] = refl
 places-size (p ∷ ps) = ap (plus (some-places 1)) (places-size ps) ∙ Used-is refl refl (omega arith) refl refl refl refl
 

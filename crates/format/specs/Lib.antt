@@ -2,3 +2,5 @@ pub mod Words
 pub mod Faults
 pub mod Parse
 pub mod RoundTrip
+pub mod Depth
+pub mod Readable
