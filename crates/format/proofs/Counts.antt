@@ -33,7 +33,7 @@ pub body-covers : (ws : List ℕ) (from to : ℕ) (u : Used) (r : Block × Used)
 body-covers = section-covers (block 64) block-words block-size (block-took 64)
 
 -- ---- the four of them
-sum-is-sizes : (F : Function) → plus (plus (plus (plus none none) (some-identifiers (length (F .identifiers)))) (some-scopes (length (F .scopes)) (declarations-in (F .scopes)))) (block-size (F .body)) ≡ sizes F
+pub sum-is-sizes : (F : Function) → plus (plus (plus (plus none none) (some-identifiers (length (F .identifiers)))) (some-scopes (length (F .scopes)) (declarations-in (F .scopes)))) (block-size (F .body)) ≡ sizes F
 unfolding sizes
 sum-is-sizes F = Used-is (omega arith) (omega arith) (omega arith) (omega arith) (omega arith) (omega arith) (omega arith)
 

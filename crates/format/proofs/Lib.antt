@@ -10,3 +10,7 @@ pub mod Bytes
 pub mod Finds
 pub mod Begins
 pub mod FindsValues
+pub mod FindsStatements
+pub mod FindsTables
+pub mod Rereads
+pub mod Fitting

@@ -24,7 +24,7 @@ pub andThen-ok : {X Y : Type 0} (r : Result X FileFault) (f : X → Result Y Fil
 andThen-ok (Ok x) f y e = (x, refl, e)
 andThen-ok (Err z) f y e = absurd (err-ok e)
 
-to-end-ok : {X : Type 0} (x : X) (at : ℕ) (u : Used) (vs : List ℕ) (r : X × Used) → to-end x at u vs ≡ Ok r → (vs ≡ []) × ((x, u) ≡ r)
+pub to-end-ok : {X : Type 0} (x : X) (at : ℕ) (u : Used) (vs : List ℕ) (r : X × Used) → to-end x at u vs ≡ Ok r → (vs ≡ []) × ((x, u) ≡ r)
 to-end-ok x at u [] r e = (refl, ok-ok e)
 to-end-ok x at u (v ∷ vs) r e = absurd (err-ok e)
 

@@ -45,25 +45,28 @@ declarations-size : (ds : List ReactiveScopeDeclaration) → items-size (λ _. o
 declarations-size [] = refl
 declarations-size (d ∷ ds) = ap (plus one-declaration) (declarations-size ds) ∙ Used-is refl refl refl refl refl (omega arith) refl
 
+pub one-scope-size : (ds : List ReactiveScopeDeclaration) → plus one-scope (items-size (λ _. one-declaration) ds) ≡ some-scopes 1 (length ds)
+one-scope-size ds = ap (plus one-scope) (declarations-size ds) ∙ Used-is refl refl refl refl refl (omega arith) refl
+
 scope-took : (c : Cursor) → Comes (scope-info c) (λ s d. Took c d (scope-words s) (some-scopes 1 (length (s .declarations))))
 unfolding scope-info
 scope-took c =
     after (scope-began c) (λ _ c₁ t. after (option-passed early-passed c₁) (λ r c₂ t₁. after (listed-took declaration-took c₂) (λ ds c₃ t₂.
-    given (sized (ap (plus one-scope) (declarations-size ds) ∙ Used-is refl refl refl refl refl (omega arith) refl) (both t (then t₁ t₂))))))
+    given (sized (one-scope-size ds) (both t (then t₁ t₂))))))
 
 -- ---- whole sections
 pub counters-passed : (c : Cursor) → Comes (counters c) (λ n d. Passed c d (counters-words n))
 unfolding counters
 counters-passed c = after (order-passed c) (λ b c₁ t₁. after (order-passed c₁) (λ t c₂ t₂. after (order-passed c₂) (λ r c₃ t₃. given (on t₁ (on t₂ t₃)))))
 
-identifiers-size : (is : List Identifier) → items-size (λ _. one-identifier) is ≡ some-identifiers (length is)
+pub identifiers-size : (is : List Identifier) → items-size (λ _. one-identifier) is ≡ some-identifiers (length is)
 identifiers-size [] = refl
 identifiers-size (i ∷ is) = ap (plus one-identifier) (identifiers-size is) ∙ Used-is refl refl refl (omega arith) refl refl refl
 
 pub identifiers-took : (c : Cursor) → Comes (every identifier c) (λ is d. Took c d (items-words identifier-words is) (some-identifiers (length is)))
 identifiers-took c = weaker (every-took identifier-took (length (c .rest)) (c .rest) c) (λ is d t. sized (identifiers-size is) t)
 
-scopes-size : (ss : List ScopeInfo) → items-size (λ s. some-scopes 1 (length (s .declarations))) ss ≡ some-scopes (length ss) (declarations-in ss)
+pub scopes-size : (ss : List ScopeInfo) → items-size (λ s. some-scopes 1 (length (s .declarations))) ss ≡ some-scopes (length ss) (declarations-in ss)
 scopes-size [] = refl
 scopes-size (s ∷ ss) = ap (plus (some-scopes 1 (length (s .declarations)))) (scopes-size ss) ∙ Used-is refl refl refl refl (omega arith) refl refl
 

@@ -108,3 +108,6 @@ Bytes-are-read = (F : Function) → Readable F → Holds F → parse-file (bytes
 -- and no other is read
 abbrev pub Only-readable : Type 0
 Only-readable = (ws : List ℕ) (F : Function) → parse ws ≡ Ok F → Readable F
+
+abbrev pub Only-held : Type 0
+Only-held = (bs : List ℕ) (F : Function) → All (λ b. b < 256) bs → parse-file bs ≡ Ok F → Readable F × Holds F

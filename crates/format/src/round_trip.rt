@@ -1,4 +1,5 @@
 // What is promised of reading and writing a function file. The bodies do nothing: the contracts are what counts.
+ghost use Rattle.format.specs.Readable.{Words-are-read, Bytes-are-read, Only-readable, Only-held};
 ghost use Rattle.format.specs.RoundTrip.{Words-come-back, Bytes-come-back, Slots-are-counted, Read-is-within};
 
 // A file that is read is written as it was, word for word.
@@ -25,6 +26,34 @@ pub fn reading_counts_the_slots() -> u8
 // What is read is within the limits.
 pub fn what_is_read_is_within_the_limits() -> u8
     ensures { λ _. ⌜ Read-is-within ⌝ }
+{
+    0
+}
+
+// What is written of a function within the limits is read as that function, so nothing good is refused.
+pub fn what_is_written_within_the_limits_is_read() -> u8
+    ensures { λ _. ⌜ Words-are-read ⌝ }
+{
+    0
+}
+
+// And so are its bytes, where a file holds them.
+pub fn its_bytes_are_read() -> u8
+    ensures { λ _. ⌜ Bytes-are-read ⌝ }
+{
+    0
+}
+
+// No other function is read from words.
+pub fn only_functions_within_the_limits_are_read() -> u8
+    ensures { λ _. ⌜ Only-readable ⌝ }
+{
+    0
+}
+
+// And none from bytes.
+pub fn only_what_a_file_holds_is_read() -> u8
+    ensures { λ _. ⌜ Only-held ⌝ }
 {
     0
 }
