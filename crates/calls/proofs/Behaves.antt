@@ -1,18 +1,18 @@
 -- A function that simulates a loaded one behaves as it, and its steps are few.
 -- The loaded one enters no recorded scope, so the entries and the record's return counted are those of the later one.
 use mathlib.Core.Path.{_≡_, refl, sym, _∙_, ap}
-use mathlib.Core.Bool.{Bool, true, false}
+use mathlib.Core.Bool.{true, false}
 use mathlib.Core.Logic.{_⊎_, inl, inr}
 use mathlib.Core.List.{List}
-use Prim.Native.Nat.{ℕ, zero, suc, _+_, _*_, _≤_}
+use Prim.Native.Nat.{ℕ}
 use native.Mathlib.Omega.{arith}
 use Rattle.hir.specs.Tree.{Function}
-use Rattle.semantics.specs.Machine.{Meaning, State, Out, normal, broke, continued, returned, threw, Result, done, spent}
+use Rattle.semantics.specs.Machine.{Meaning, State, Out, returned, Result, done, spent}
 use Rattle.semantics.specs.Exec.{exec, outcome, ran, last}
 use Rattle.semantics.specs.Laws.{is-spent, RecordAt}
 use Rattle.semantics.specs.declared.Outcome.the-variants.{Returned}
 use Rattle.semantics.proofs.Records.{records-once}
-use Rattle.simulation.specs.Faithful.{SameStart, Ends, NoMore, EndsAlike, Simulates}
+use Rattle.simulation.specs.Faithful.{SameStart, NoMore, EndsAlike, Simulates}
 use Rattle.calls.specs.Promise.{Loaded, Alike, Behaves}
 use Rattle.calls.proofs.Unrecorded.{Even, unrecorded}
 

@@ -1,6 +1,6 @@
 -- Whatever calls are made, the function held is well-formed and simulates the loaded one, and so does the one at a draft's opening.
 -- Each call keeps that: a change by its faithfulness, the others since they choose among what was held.
-use mathlib.Core.Path.{_≡_, refl, sym, _∙_, ap}
+use mathlib.Core.Path.{_≡_, refl, sym, ap}
 use mathlib.Core.Bool.{Bool, true, false, cond}
 use mathlib.Core.Logic.{_⊎_, inl, inr}
 use mathlib.Core.List.{List, [], _∷_, _++_}
@@ -9,8 +9,8 @@ use native.Mathlib.Omega.{arith}
 use Rattle.std.specs.declared.option.Option.{Option}
 use Rattle.std.specs.declared.option.Option.the-variants.{Some, None}
 use Rattle.hir.specs.Tree.{Function}
-use Rattle.simulation.specs.WellFormed.{All, WellFormed}
-use Rattle.simulation.specs.Faithful.{Simulates, Kept, Faithful}
+use Rattle.simulation.specs.WellFormed.{All}
+use Rattle.simulation.specs.Faithful.{Kept, Faithful}
 use Rattle.simulation.proofs.Compose.{simulates-itself, simulates-through}
 use Rattle.early_returns.specs.Lowering.{lowered}
 use Rattle.early_returns.specs.Pass.{propagate-early-returns}
@@ -19,7 +19,7 @@ use Rattle.early_returns.proofs.Faithful.{lowering-faithful}
 use Rattle.label_pruning.specs.Pruning.{prune-labels}
 use Rattle.label_pruning.proofs.Faithful.{pruning-faithful}
 use Rattle.calls.specs.Calls.{Call, opening, keeping, takingBack, running, lowering, pruning, walking, Made, Held, settled, draft, found, or-as-it-was, changed, leaves, after, after-all}
-use Rattle.calls.specs.Promise.{Loaded, HandedIn, AllHandedIn, Behaves, Holds, made, ends-draft, EndsNone, CallsPromise}
+use Rattle.calls.specs.Promise.{Loaded, HandedIn, AllHandedIn, Holds, made, ends-draft, EndsNone, CallsPromise}
 use Rattle.calls.proofs.Behaves.{behaves}
 
 not-both : {A : Type 0} → true ≡ false → A

@@ -1,6 +1,6 @@
 -- Where no scope has a record, a run enters no recorded scope, and no record returns.
 -- So the counts of a run stay as they were at its beginning.
-use mathlib.Core.Path.{_≡_, refl, sym, _∙_, ap}
+use mathlib.Core.Path.{_≡_, refl, _∙_, ap}
 use mathlib.Core.Bool.{Bool, true, false}
 use mathlib.Core.List.{List, [], _∷_}
 use Prim.Native.Nat.{ℕ, zero, suc}
@@ -13,9 +13,9 @@ use Rattle.hir.specs.Tree.{Op, Val, operation, logical, conditional, sequence, 
 use Rattle.host.specs.Asked.{asked}
 use Rattle.host.specs.declared.Reply.{Reply}
 use Rattle.host.specs.declared.Reply.the-variants.{Value, Thrown}
-use Rattle.semantics.specs.Machine.{Meaning, State, Out, normal, broke, continued, returned, threw, Result, done, spent, stepped, moved, gave, at, all-at, last-at, store-all, assign, wrote, branch, bind, handle, mapOut, enter, leave, onReply, ask, test, ask-each, tick, iter}
-use Rattle.semantics.specs.Targets.{mark, mark-inside, nowhere, aimB}
-use Rattle.semantics.specs.Exec.{Class, loads, declares, stores, asks-each, asks, class, operator-number, default, endLoop, endRound, endLabel, recorded-place, records-of, evalOp, evalV, evalI, evalIs, evalO, select, tested, runS, runT, runFrom, runO, runB, begin, within, exec, last}
+use Rattle.semantics.specs.Machine.{Meaning, State, Out, normal, broke, continued, returned, threw, Result, done, spent, stepped, moved, gave, at, last-at, store-all, assign, wrote, branch, bind, handle, mapOut, enter, leave, onReply, ask, test, ask-each, tick, iter}
+use Rattle.semantics.specs.Targets.{mark, nowhere, aimB}
+use Rattle.semantics.specs.Exec.{Class, loads, declares, stores, asks-each, asks, class, default, recorded-place, records-of, evalOp, evalV, evalI, evalIs, evalO, select, tested, runS, runT, runFrom, runO, runB, begin, within, exec, last}
 use Rattle.simulation.specs.WellFormed.{All}
 
 module _ {S : Type 0} where

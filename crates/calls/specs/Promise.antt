@@ -4,19 +4,16 @@ use mathlib.Core.List.{List, [], _∷_, _++_}
 use mathlib.Core.Logic.{_⊎_}
 use mathlib.Core.Path.{_≡_}
 use Prim.Native.Nat.{ℕ, _+_, _*_, _≤_}
-use Rattle.std.specs.declared.option.Option.{Option}
-use Rattle.std.specs.declared.option.Option.the-variants.{Some, None}
-use Rattle.hir.specs.Tree.{Function, ScopeInfo}
+use Rattle.std.specs.declared.option.Option.the-variants.{None}
+use Rattle.hir.specs.Tree.{Function}
 use Rattle.semantics.specs.Machine.{Meaning, Result}
 use Rattle.semantics.specs.Exec.{exec, ran, last}
 use Rattle.semantics.specs.Laws.{is-spent, bit}
 use Rattle.semantics.specs.Targets.{TgB, nowhere}
-use Rattle.semantics.specs.declared.Outcome.{Outcome}
 use Rattle.semantics.specs.declared.Outcome.the-variants.{Returned}
-use Rattle.semantics.specs.declared.Ran.{Ran}
 use Rattle.simulation.specs.WellFormed.{All, WellFormed}
 use Rattle.simulation.specs.Faithful.{SameStart, Faithful}
-use Rattle.calls.specs.Calls.{Call, opening, keeping, takingBack, running, lowering, pruning, walking, Made, Held, settled, draft, found, after-all}
+use Rattle.calls.specs.Calls.{Call, opening, keeping, takingBack, running, lowering, pruning, walking, Made, settled, draft, found, after-all}
 
 -- what a load gives: a well-formed function whose scopes have no record
 pub record Loaded (F : Function) : Type 0 where

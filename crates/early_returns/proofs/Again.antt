@@ -1,11 +1,11 @@
--- A lowered function lowered again is the same: a scope that was treated has a record, and no other has an open return.
-use mathlib.Core.Path.{_≡_, refl, sym, _∙_, ap}
+-- A lowered function lowered again is the same.
+-- A scope that was treated has a record, and no other outermost scope has an open return.
+use mathlib.Core.Path.{_≡_, refl, _∙_, ap}
 use mathlib.Core.List.{List, [], _∷_, _++_}
 use mathlib.Core.Bool.{true, false}
 use Prim.Native.Nat.{ℕ, zero, suc, _<_}
 use native.Mathlib.Omega.{arith}
 use lib.ListN.{length}
-use lib.Dec.{eqb}
 use borrow.Author.Tests.{eq-eqb}
 use Rattle.std.specs.declared.option.Option.{Option}
 use Rattle.std.specs.declared.option.Option.the-variants.{Some, None}
@@ -14,7 +14,7 @@ use Rattle.hir.specs.Tree.{Stmt, instruction, scope, pruned, terminal, Term, br
 use Rattle.semantics.specs.Exec.{records-of}
 use Rattle.semantics.specs.Targets.{has}
 use Rattle.simulation.specs.WellFormed.{Sizes, sizes, OkS, OkT, OkK, OkO, OkB, scopesS, scopesT, scopesK, scopesO, scopesB, Distinct, WellFormed}
-use Rattle.early_returns.specs.Lowering.{Env, start, or-else, unless-recorded, firstS, firstT, firstK, firstO, firstB, change, with-record, lowScope, afterScope, afterS, afterT, afterK, afterO, afterB, lowS, lowT, lowK, lowO, lowB, lowered}
+use Rattle.early_returns.specs.Lowering.{Env, start, unless-recorded, firstS, firstT, firstK, firstO, firstB, change, with-record, lowScope, afterScope, afterS, afterT, afterK, afterO, afterB, lowS, lowT, lowK, lowO, lowB, lowered}
 use Rattle.simulation.proofs.Lists.{distinct-left, distinct-right}
 use Rattle.early_returns.proofs.Frame.{has-left, has-right, apart, apart-back, frameS, frameB, frameO, frameK}
 

@@ -1,17 +1,16 @@
--- The five identifiers, made one after the other, are the five of the description; what a record changes in the table.
-use mathlib.Core.Path.{_≡_, refl, sym, _∙_, ap}
+-- The five identifiers of a scope, made one after the other, are the five of the description.
+-- The first is made at its first open return, the others at its end, and nothing else is made in between.
+use mathlib.Core.Path.{_≡_, refl, _∙_, ap}
 use mathlib.Core.List.{List, [], _∷_, _++_}
-use Prim.Native.Nat.{ℕ, zero, suc, _+_}
+use Prim.Native.Nat.{ℕ, suc, _+_}
 use native.Mathlib.Omega.{arith}
 use lib.ListN.{length, length-append}
-use Rattle.std.specs.declared.option.Option.{Option}
 use Rattle.std.specs.declared.option.Option.the-variants.{Some, None}
-use Rattle.hir.specs.declared.environment.Counters.{Counters}
 use Rattle.hir.specs.declared.environment.Identifier.{Identifier}
 use Rattle.hir.specs.Tree.{ScopeInfo, Block}
 use Rattle.early_returns.specs.Statements.{opening}
-use Rattle.early_returns.specs.Lowering.{Env, ids, blocks, fresh, five, change, with-record, afterScope}
-use Rattle.early_returns.specs.Pass.{create-temporary, promoted, promote-temporary, next-block, EarlyReturnInfo, early-return, record-in, apply-early-return}
+use Rattle.early_returns.specs.Lowering.{Env, ids, blocks, fresh, five, change, afterScope}
+use Rattle.early_returns.specs.Pass.{create-temporary, promoted, EarlyReturnInfo, early-return, apply-early-return}
 
 change-last : {A : Type 0} (xs : List A) (a : A) (f : A → A) → change (xs ++ (a ∷ [])) (length xs) f ≡ xs ++ (f a ∷ [])
 unfolding change

@@ -1,11 +1,12 @@
--- The examples hold by computing; the runs ask the four fixed questions only.
-use mathlib.Core.Path.{_≡_, refl, _∙_}
+-- The examples hold by computing.
+-- The runs ask the four fixed questions only, so they are alike on every host.
+use mathlib.Core.Path.{refl, _∙_}
 use mathlib.Core.List.{List, [], _∷_}
 use Prim.Native.Nat.{ℕ}
 use Rattle.hir.specs.Encode.{encode}
 use Rattle.host.specs.Asked.{Asked, asked, fixed}
-use Rattle.semantics.specs.Machine.{Meaning, look, put, branch, bind, handle, mapOut, enter, leave, onReply, ask, tick, iter}
-use Rattle.semantics.specs.Exec.{class, records-of, exec, ran}
+use Rattle.semantics.specs.Machine.{look, put, branch, bind, handle, mapOut, enter, leave, onReply, ask, tick, iter}
+use Rattle.semantics.specs.Exec.{class, records-of, exec}
 use Rattle.early_returns.specs.Lowering.{change, lowered}
 use Rattle.early_returns.specs.Pass.{propagate-early-returns}
 use Rattle.early_returns.specs.Examples.{scopes-in-terminals, Lowers, Runs, Examples}

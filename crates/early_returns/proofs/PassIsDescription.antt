@@ -1,11 +1,10 @@
 -- The pass as it is published gives what lowering is described to give.
 -- Inside a scope the walk opens returns, its state a function of the first of them; outside it lowers scope by scope.
-use mathlib.Core.Path.{_≡_, refl, sym, _∙_, ap}
-use mathlib.Core.Bool.{Bool, true, false, _||_}
+use mathlib.Core.Path.{_≡_, refl, _∙_, ap}
+use mathlib.Core.Bool.{true, false}
 use mathlib.Core.List.{List, [], _∷_, _++_}
-use Prim.Native.Nat.{ℕ, zero, suc, _+_}
+use Prim.Native.Nat.{ℕ, _+_}
 use native.Mathlib.Omega.{arith}
-use lib.Dec.{eqb}
 use borrow.Author.Tests.{eq-eqb}
 use Rattle.std.specs.declared.option.Option.{Option}
 use Rattle.std.specs.declared.option.Option.the-variants.{Some, None}
@@ -14,11 +13,11 @@ use Rattle.hir.specs.Tree.{Stmt, instruction, scope, pruned, terminal, Term, br
 use Rattle.semantics.specs.Exec.{records-of}
 use Rattle.semantics.specs.Targets.{has}
 use Rattle.simulation.specs.WellFormed.{scopesS, scopesT, scopesK, scopesO, scopesB, Distinct, WellFormed}
-use Rattle.early_returns.specs.Lowering.{Env, start, with-body, ids, blocks, or-else, unless-recorded, keep-recorded, firstS, firstT, firstK, firstO, firstB, openS, openT, openK, openO, openB, lowScope, afterScope, afterS, afterT, afterK, afterO, afterB, lowS, lowT, lowK, lowO, lowB, lowered}
-use Rattle.early_returns.specs.Pass.{EarlyReturnInfo, State, early-return, apply-early-return, inner, leave-scope, exit-early, append, walkS, walkT, walkK, walkO, walkB, propagate-early-returns}
+use Rattle.early_returns.specs.Lowering.{Env, start, ids, blocks, or-else, unless-recorded, keep-recorded, firstS, firstT, firstK, firstO, firstB, openS, openT, openK, openO, openB, lowScope, afterScope, afterS, afterT, afterK, afterO, afterB, lowS, lowT, lowK, lowO, lowB, lowered}
+use Rattle.early_returns.specs.Pass.{EarlyReturnInfo, State, early-return, leave-scope, exit-early, append, walkS, walkT, walkK, walkO, walkB, propagate-early-returns}
 use Rattle.early_returns.proofs.Environment.{apply-five}
 use Rattle.simulation.proofs.Lists.{distinct-left, distinct-right}
-use Rattle.early_returns.proofs.Frame.{not-both, has-left, has-right, apart, frameS, frameB, frameO, frameT, frameK}
+use Rattle.early_returns.proofs.Frame.{has-left, has-right, apart, frameS, frameB, frameO}
 
 -- ---- the state after a part inside a scope, by the span of its first open return
 abbrev earlyAfter : Option ℕ → Option EarlyReturnInfo → Env → Option EarlyReturnInfo

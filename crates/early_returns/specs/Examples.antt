@@ -8,15 +8,12 @@ use Rattle.std.specs.declared.option.Option.the-variants.{Some, None}
 use Rattle.hir.specs.declared.place.Place.{Place}
 use Rattle.hir.specs.declared.place.Effect.{Effect}
 use Rattle.hir.specs.declared.place.Effect.the-variants.{Unknown, Read, Capture, ConditionallyMutate}
-use Rattle.hir.specs.declared.terminal.ReactiveLabel.{ReactiveLabel}
 use Rattle.hir.specs.declared.terminal.ReactiveTerminalTargetKind.the-variants.{Labeled}
 use Rattle.hir.specs.declared.environment.Counters.{Counters}
 use Rattle.hir.specs.declared.environment.Identifier.{Identifier}
 use Rattle.hir.specs.declared.environment.IdentifierName.{IdentifierName}
 use Rattle.hir.specs.declared.environment.IdentifierName.the-variants.{Named, Promoted}
-use Rattle.hir.specs.declared.environment.ReactiveScopeEarlyReturn.{ReactiveScopeEarlyReturn}
-use Rattle.hir.specs.declared.environment.ReactiveScopeDeclaration.{ReactiveScopeDeclaration}
-use Rattle.hir.specs.Tree.{Val, operation, Op, instr, OptVal, noVal, Stmt, instruction, scope, pruned, terminal, Term, break, return, switch, doWhile, while, for, forOf, forIn, if, label, try, Cases, knil, kcons, OptBlock, someBlock, Block, nil, cons, ScopeInfo, Function}
+use Rattle.hir.specs.Tree.{Val, operation, instr, noVal, Stmt, instruction, scope, pruned, terminal, Term, break, return, switch, doWhile, while, for, forOf, forIn, if, label, try, knil, kcons, someBlock, Block, nil, cons, ScopeInfo, Function}
 use Rattle.hir.specs.Encode.{encode}
 use Rattle.semantics.specs.Machine.{Meaning}
 use Rattle.semantics.specs.Exec.{exec, ran}

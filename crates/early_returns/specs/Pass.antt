@@ -1,15 +1,13 @@
 -- The pass as it is published: a walk with a state, on an environment that it changes as it goes. Assumes nothing.
 use mathlib.Core.Bool.{Bool, true, false}
-use mathlib.Core.List.{List, [], _∷_, _++_}
+use mathlib.Core.List.{[], _∷_, _++_}
 use Prim.Native.Nat.{ℕ, _+_}
 use Rattle.std.specs.declared.option.Option.{Option}
 use Rattle.std.specs.declared.option.Option.the-variants.{Some, None}
 use Rattle.hir.specs.declared.place.Place.{Place}
 use Rattle.hir.specs.declared.terminal.ReactiveLabel.{ReactiveLabel}
-use Rattle.hir.specs.declared.environment.Counters.{Counters}
 use Rattle.hir.specs.declared.environment.Identifier.{Identifier}
 use Rattle.hir.specs.declared.environment.IdentifierName.the-variants.{Promoted}
-use Rattle.hir.specs.declared.environment.ReactiveScopeEarlyReturn.{ReactiveScopeEarlyReturn}
 use Rattle.hir.specs.Tree.{Stmt, instruction, scope, pruned, terminal, Term, break, continue, return, throw, switch, doWhile, while, for, forOf, forIn, if, label, try, Cases, knil, kcons, OptBlock, noBlock, someBlock, Block, nil, cons, Function}
 use Rattle.semantics.specs.Exec.{records-of}
 use Rattle.early_returns.specs.Statements.{opening, leaving}

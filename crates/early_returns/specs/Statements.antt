@@ -1,15 +1,13 @@
 -- The statements that the pass writes, with the effects, flags and spans of the compiler. Assumes nothing.
-use mathlib.Core.Bool.{Bool, true, false}
+use mathlib.Core.Bool.{true, false}
 use mathlib.Core.List.{List, [], _∷_}
 use Prim.Native.Nat.{ℕ}
-use Rattle.std.specs.declared.option.Option.{Option}
 use Rattle.std.specs.declared.option.Option.the-variants.{Some, None}
 use Rattle.hir.specs.declared.place.Place.{Place}
 use Rattle.hir.specs.declared.place.Effect.{Effect}
 use Rattle.hir.specs.declared.place.Effect.the-variants.{Unknown, Capture, ConditionallyMutate}
-use Rattle.hir.specs.declared.terminal.ReactiveLabel.{ReactiveLabel}
 use Rattle.hir.specs.declared.terminal.ReactiveTerminalTargetKind.the-variants.{Labeled}
-use Rattle.hir.specs.Tree.{Op, operation, instr, Stmt, instruction, terminal, break, label, Block, nil, cons}
+use Rattle.hir.specs.Tree.{operation, instr, Stmt, instruction, terminal, break, label, Block, nil, cons}
 
 -- a place of a temporary: no effect is known of it, and its source is generated
 abbrev pub generated : ℕ → Place

@@ -1,4 +1,5 @@
 -- The examples of label pruning hold by computing.
+-- They have no scopes and no identifiers: pruning looks at neither.
 use mathlib.Core.Path.{refl}
 use Rattle.label_pruning.specs.Pruning.{prune-labels}
 use Rattle.label_pruning.specs.Examples.{Examples}

@@ -1,23 +1,24 @@
--- Label pruning is faithful: the two runs go side by side, and a Label that is gone costs one step less.
+-- Label pruning is faithful: the two runs go side by side.
+-- A Label that is gone had nothing to catch, and cost a step.
 use mathlib.Core.Path.{_≡_, refl, sym, _∙_, ap, fun-ext}
 use mathlib.Core.Bool.{Bool, true, false}
-use Prim.Native.Nat.{ℕ, suc, _+_, _*_, _≤_}
+use Prim.Native.Nat.{ℕ}
 use native.Mathlib.Omega.{arith}
 use Rattle.std.specs.declared.option.Option.{Option}
 use Rattle.std.specs.declared.option.Option.the-variants.{Some, None}
 use Rattle.hir.specs.declared.terminal.ReactiveLabel.{ReactiveLabel}
 use Rattle.hir.specs.Tree.{Stmt, instruction, scope, pruned, terminal, Term, break, continue, return, throw, switch, doWhile, while, for, forOf, forIn, if, label, try, Cases, knil, kcons, OptBlock, noBlock, someBlock, Block, nil, cons, Function}
-use Rattle.semantics.specs.Machine.{Meaning, State, Out, normal, broke, continued, returned, threw, Result, done, spent, stepped, branch, bind, mapOut, tick}
+use Rattle.semantics.specs.Machine.{Meaning, State, normal, broke, continued, returned, threw, Result, done, spent, stepped, branch, bind, mapOut, tick}
 use Rattle.semantics.specs.Targets.{mark}
-use Rattle.semantics.specs.Exec.{endLabel, runS, runB, always, records-of}
+use Rattle.semantics.specs.Exec.{endLabel, runS, runB, always}
 use Rattle.simulation.specs.WellFormed.{IfSome, Sizes, sizes, LabelOk, OkS, OkT, OkK, OkO, OkB, WellFormed}
 use Rattle.simulation.specs.Faithful.{Simulates, Kept}
-use Rattle.simulation.proofs.Rel.{Setting, Beside, Rel, Below, bind-rel}
-use Rattle.simulation.proofs.Cong.{Runs, SRel, TRel, KRel, ORel, BRel, nil-rel, cons-rel, no-rel, some-rel, instruction-rel, scope-rel, pruned-rel, terminal-rel, break-rel, continue-rel, return-rel, throw-rel, switch-rel, doWhile-rel, while-rel, for-rel, forOf-rel, forIn-rel, if-rel, label-rel, try-rel, knil-rel, kcons-rel}
-use Rattle.simulation.proofs.Simulate.{places, whole, Related, simulates}
-use Rattle.label_pruning.specs.Pruning.{append, targetsB, targeted, unless-pruned, pruneS, pruneT, pruneK, pruneO, pruneB, prune-labels}
+use Rattle.simulation.proofs.Rel.{Beside, Below, bind-rel}
+use Rattle.simulation.proofs.Cong.{Runs, KRel, ORel, BRel, nil-rel, cons-rel, no-rel, some-rel, instruction-rel, scope-rel, pruned-rel, terminal-rel, break-rel, continue-rel, return-rel, throw-rel, switch-rel, doWhile-rel, while-rel, for-rel, forOf-rel, forIn-rel, if-rel, label-rel, try-rel, knil-rel, kcons-rel}
+use Rattle.simulation.proofs.Simulate.{places, whole, simulates}
+use Rattle.label_pruning.specs.Pruning.{append, targeted, unless-pruned, pruneS, pruneT, pruneK, pruneO, pruneB, prune-labels}
 use Rattle.label_pruning.specs.Promises.{PruningFaithful}
-use Rattle.label_pruning.proofs.Passes.{Pass, no-break, passB}
+use Rattle.label_pruning.proofs.Passes.{no-break, passB}
 use Rattle.label_pruning.proofs.WellFormed.{pruned-well-formed}
 
 -- ---- a Label that catches nothing

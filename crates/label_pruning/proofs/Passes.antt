@@ -1,26 +1,24 @@
 -- A block in which no labeled Break targets the label l around it does not end with a break to l.
 -- So the Label l has nothing to catch.
-use mathlib.Core.Path.{_≡_, refl, sym, _∙_, ap}
+use mathlib.Core.Path.{_≡_, refl}
 use mathlib.Core.Bool.{Bool, true, false, cond, _||_}
 use mathlib.Core.List.{List, [], _∷_}
 use Prim.Native.Nat.{ℕ, zero, suc}
 use native.Mathlib.Omega.{arith}
 use lib.Dec.{eqb}
-use borrow.Author.Tests.{eqb-true, eqb-false, ne-eqb, eq-eqb}
+use borrow.Author.Tests.{eqb-true}
 use Rattle.std.specs.declared.option.Option.{Option}
 use Rattle.std.specs.declared.option.Option.the-variants.{Some, None}
 use Rattle.hir.specs.declared.place.Place.{Place}
-use Rattle.hir.specs.declared.terminal.ReactiveLabel.{ReactiveLabel}
-use Rattle.hir.specs.declared.terminal.ReactiveTerminalTargetKind.{ReactiveTerminalTargetKind}
 use Rattle.hir.specs.declared.terminal.ReactiveTerminalTargetKind.the-variants.{Implicit, Labeled, Unlabeled}
 use Rattle.hir.specs.Tree.{Op, Val, operation, logical, conditional, sequence, optional, OptVal, noVal, someVal, Instr, instr, Instrs, inil, icons, Stmt, instruction, scope, pruned, terminal, Term, break, continue, return, throw, switch, doWhile, while, for, forOf, forIn, if, label, try, Cases, knil, kcons, OptBlock, noBlock, someBlock, Block, nil, cons}
-use Rattle.host.specs.Asked.{Asked, asked}
+use Rattle.host.specs.Asked.{asked}
 use Rattle.host.specs.declared.Reply.{Reply}
 use Rattle.host.specs.declared.Reply.the-variants.{Value, Thrown}
-use Rattle.semantics.specs.Machine.{Meaning, State, Out, normal, broke, continued, returned, threw, Result, done, spent, stepped, moved, gave, at, all-at, last-at, store-all, assign, wrote, branch, bind, handle, mapOut, enter, leave, onReply, ask, test, ask-each, tick, iter}
-use Rattle.semantics.specs.Exec.{Class, loads, declares, stores, asks-each, asks, class, operator-number, when, hasLabel, endLoop, endRound, endLabel, evalOp, evalV, evalI, evalIs, evalO, select, tested, runS, runT, runFrom, runO, runB, always, default}
+use Rattle.semantics.specs.Machine.{Meaning, State, Out, normal, broke, continued, returned, threw, Result, done, spent, stepped, moved, at, branch, bind, handle, mapOut, leave, onReply, ask, test, ask-each, tick, iter}
+use Rattle.semantics.specs.Exec.{Class, loads, declares, stores, asks-each, asks, class, when, hasLabel, endLoop, endRound, endLabel, evalOp, evalV, evalI, evalIs, evalO, select, tested, runS, runT, runFrom, runO, runB, always, default}
 use Rattle.semantics.specs.Targets.{mark, mark-inside}
-use Rattle.label_pruning.specs.Pruning.{breaks, targetsS, targetsT, targetsK, targetsO, targetsB}
+use Rattle.label_pruning.specs.Pruning.{targetsS, targetsT, targetsK, targetsO, targetsB}
 
 pub not-both : {A : Type 0} → true ≡ false → A
 not-both e = let z : _≡_ {A = ℕ} 0 1 = cc in absurd (omega arith)

@@ -1,17 +1,13 @@
 -- Blocks before and after label pruning. Assumes nothing.
-use mathlib.Core.Bool.{Bool, true, false}
+use mathlib.Core.Bool.{true, false}
 use mathlib.Core.List.{List, [], _∷_}
 use mathlib.Core.Path.{_≡_}
 use Prim.Native.Nat.{ℕ}
-use Rattle.std.specs.declared.option.Option.{Option}
 use Rattle.std.specs.declared.option.Option.the-variants.{Some, None}
 use Rattle.hir.specs.declared.place.Place.{Place}
 use Rattle.hir.specs.declared.place.Effect.the-variants.{Read}
-use Rattle.hir.specs.declared.terminal.ReactiveLabel.{ReactiveLabel}
-use Rattle.hir.specs.declared.terminal.ReactiveTerminalTargetKind.{ReactiveTerminalTargetKind}
-use Rattle.hir.specs.declared.terminal.ReactiveTerminalTargetKind.the-variants.{Implicit, Labeled, Unlabeled}
-use Rattle.hir.specs.declared.environment.Counters.{Counters}
-use Rattle.hir.specs.Tree.{Val, operation, Op, OptVal, noVal, Stmt, scope, pruned, terminal, Term, break, continue, throw, switch, doWhile, while, for, forOf, forIn, if, label, try, Cases, knil, kcons, OptBlock, noBlock, someBlock, Block, nil, cons, Function}
+use Rattle.hir.specs.declared.terminal.ReactiveTerminalTargetKind.the-variants.{Labeled}
+use Rattle.hir.specs.Tree.{Val, operation, noVal, Stmt, scope, pruned, terminal, Term, break, continue, throw, switch, doWhile, while, for, forOf, forIn, if, label, try, knil, kcons, noBlock, someBlock, Block, nil, cons, Function}
 use Rattle.label_pruning.specs.Pruning.{prune-labels}
 
 -- ---- how the examples are written
