@@ -76,4 +76,4 @@ apply-five x span b e =
     let g₄ : Env = grown l (t + 5) (r + 5) xs y₄ ss in
     ap (λ (is : List Identifier). whole n (blocks e) span b (record { counters = record { blocks = l; types = t + 1; ranges = r + 1 }; identifiers = is; scopes = ss })) (change-last xs (fresh n None t r span) promoted)
     ∙ four n (blocks e) span b g₀ g₁ g₂ g₃ g₄ (n + 1) (n + 2) (n + 3) (n + 4) (grows l t r 1 xs ys ss span refl) (grows l t r 2 xs y₁ ss span refl) (grows l t r 3 xs y₂ ss span refl) (grows l t r 4 xs y₃ ss span refl)
-      (length-append xs ys) (length-append xs y₁) (length-append xs y₂) (length-append xs y₃)
+    (length-append xs ys) (length-append xs y₁) (length-append xs y₂) (length-append xs y₃)

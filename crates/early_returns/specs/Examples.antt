@@ -95,8 +95,8 @@ return-in-scope-lowered = record {
       (cons (does (Some (place 2 Unknown false 0)) 12 0 [] (place 3 Unknown false 0 ∷ place 4 Unknown false 0 ∷ place 5 Unknown false 0 ∷ []) 9)
       (cons (does None 4 1 (place 1 ConditionallyMutate true 9 ∷ []) (place 2 Unknown false 0 ∷ []) 9)
       (cons (terminal (label
-          (cons (does None 4 2 (place 1 Capture true 9 ∷ []) (place 0 Read true 9 ∷ []) 9)
-          (cons (terminal (break 7 0 Labeled) None) nil)) 0) (Some (record { id = 7; implicit = false }))) nil))))))) nil;
+      (cons (does None 4 2 (place 1 Capture true 9 ∷ []) (place 0 Read true 9 ∷ []) 9)
+      (cons (terminal (break 7 0 Labeled) None) nil)) 0) (Some (record { id = 7; implicit = false }))) nil))))))) nil;
 }
 
 -- both as the words of a file: the pairs, the counters, the identifiers, the scopes and the body
