@@ -1,0 +1,4 @@
+pub mod Tests
+pub mod Lines
+pub mod Scopes
+pub mod Loaded
