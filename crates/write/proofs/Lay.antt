@@ -119,3 +119,7 @@ word-as e h = wrote-as (ap (λ w. w ∷ []) e) h
 
 pub room-as : {o ws vs : List ℕ} {at : ℕ} → ws ≡ vs → Room o at ws → Room o at vs
 room-as {o} {at = at} e h = subst (λ v. Room o at v) e h
+
+-- under other names for the buffer after it and for the word after it
+pub wrote-to : {o p q ws : List ℕ} {at r s : ℕ} → q ≡ p → s ≡ r → Wrote o p at ws r → Wrote o q at ws s
+wrote-to {o} {p} {q} {ws} {at} {r} {s} e f h = subst (λ n. Wrote o q at ws n) (sym f) (subst (λ l. Wrote o l at ws r) (sym e) h)

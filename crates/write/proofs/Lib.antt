@@ -2,3 +2,4 @@ pub mod Lay
 pub mod Items
 pub mod Nodes
 pub mod Rows
+pub mod Owned
