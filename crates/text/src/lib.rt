@@ -1,0 +1,5 @@
+// Words as text in decimal, read and written, and as bytes.
+pub mod bytes;
+pub mod character;
+pub mod line;
+pub mod read;
