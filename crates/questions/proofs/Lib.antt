@@ -4,3 +4,4 @@ pub mod ValueParts
 pub mod Row
 pub mod Passing
 pub mod Optional
+pub mod Stacked

@@ -2,3 +2,4 @@ pub mod Questions
 pub mod Pass
 pub mod Own
 pub mod Rows
+pub mod Around
