@@ -5,3 +5,4 @@ pub mod Row
 pub mod Passing
 pub mod Optional
 pub mod Stacked
+pub mod TermParts

@@ -3,3 +3,4 @@ pub mod Pass
 pub mod Own
 pub mod Rows
 pub mod Around
+pub mod Parts

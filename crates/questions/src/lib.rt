@@ -2,4 +2,6 @@
 pub mod around;
 pub mod line;
 pub mod operations;
+pub mod parts;
+pub mod terminals;
 pub mod values;
