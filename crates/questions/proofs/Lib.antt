@@ -6,3 +6,6 @@ pub mod Passing
 pub mod Optional
 pub mod Stacked
 pub mod TermParts
+pub mod BlockRow
+pub mod CaseRow
+pub mod StatementParts
