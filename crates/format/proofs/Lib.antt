@@ -14,3 +14,5 @@ pub mod FindsStatements
 pub mod FindsTables
 pub mod Rereads
 pub mod Fitting
+pub mod Places
+pub mod Refusals

@@ -20,7 +20,7 @@ part-joined ws a b h =
     let n : a + (b - a) ≡ b = omega arith in
     ap (λ k. take (b - a) (drop a ws) ++ drop k ws) (sym n) ∙ ap (λ l. take (b - a) (drop a ws) ++ l) (sym (drop-drop (b - a) a ws)) ∙ take-append-drop (b - a) (drop a ws)
 
-part-long : (ws : List ℕ) (a b : ℕ) → b ≤ length ws → length (take (b - a) (drop a ws)) ≡ b - a
+pub part-long : (ws : List ℕ) (a b : ℕ) → b ≤ length ws → length (take (b - a) (drop a ws)) ≡ b - a
 part-long ws a b h = length-take-le (b - a) (drop a ws) (omega (arith, length-drop a ws))
 
 -- the eight words of the pairs, and the rest

@@ -4,3 +4,4 @@ pub mod Parse
 pub mod RoundTrip
 pub mod Depth
 pub mod Readable
+pub mod Refusals

@@ -1,5 +1,6 @@
 // What is promised of reading and writing a function file. The bodies do nothing: the contracts are what counts.
 ghost use Rattle.format.specs.Readable.{Words-are-read, Bytes-are-read, Only-readable, Only-held};
+ghost use Rattle.format.specs.Refusals.{First-no-is-told};
 ghost use Rattle.format.specs.RoundTrip.{Words-come-back, Bytes-come-back, Slots-are-counted, Read-is-within};
 
 // A file that is read is written as it was, word for word.
@@ -54,6 +55,13 @@ pub fn only_functions_within_the_limits_are_read() -> u8
 // And none from bytes.
 pub fn only_what_a_file_holds_is_read() -> u8
     ensures { λ _. ⌜ Only-held ⌝ }
+{
+    0
+}
+
+// A refusal tells the first question whose answer is no: the length, the pairs word by word, and only then the sections.
+pub fn a_refusal_tells_the_first_no() -> u8
+    ensures { λ _. ⌜ First-no-is-told ⌝ }
 {
     0
 }
