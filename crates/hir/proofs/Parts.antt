@@ -137,7 +137,7 @@ module _ (a : ValueSlots) (val : ℕ → Option Val) where
     pub is : icons first rest ≡ x
 
   pub instrs-parts : (start n : ℕ) (i : ReactiveInstruction) (x : Instrs) → start + n ≤ length (a .instructions) → n ≢ 0 → i ≡ getD (a .instructions) start i
-    → instrs-of val (take n (drop start (a .instructions))) ≡ Some x → InstrsParts start n i x
+      → instrs-of val (take n (drop start (a .instructions))) ≡ Some x → InstrsParts start n i x
   instrs-parts start n i x inside ne at e =
       let p = bound (instr-of val i) _ x (sym (ap (instrs-of val) (cut (a .instructions) start n i inside ne at)) ∙ e) in
       let q = bound (instrs-of val (take (n - 1) (drop (start + 1) (a .instructions)))) _ x (p .2) in
@@ -195,7 +195,7 @@ module _ (a : Slots) (val : ℕ → Option Val) (block : Range → Option Block)
     pub is : kcons (c .test) body rest ≡ x
 
   pub cases-parts : (start n : ℕ) (c : ReactiveSwitchCase) (x : Cases) → start + n ≤ length (a .cases) → n ≢ 0 → c ≡ getD (a .cases) start c
-    → cases-of block (take n (drop start (a .cases))) ≡ Some x → CasesParts start n c x
+      → cases-of block (take n (drop start (a .cases))) ≡ Some x → CasesParts start n c x
   cases-parts start n c x inside ne at e =
       let p = bound (opt-block-of block (c .block)) _ x (sym (ap (cases-of block) (cut (a .cases) start n c inside ne at)) ∙ e) in
       let q = bound (cases-of block (take (n - 1) (drop (start + 1) (a .cases)))) _ x (p .2) in
@@ -386,7 +386,7 @@ module _ (slot : ℕ → Option Stmt) where
     pub is : cons first rest ≡ x
 
   pub body-parts : (es : List ℕ) (start n k : ℕ) (x : Block) → start + n ≤ length es → n ≢ 0 → k ≡ getD es start k
-    → body-of slot (take n (drop start es)) ≡ Some x → BodyParts es start n k x
+      → body-of slot (take n (drop start es)) ≡ Some x → BodyParts es start n k x
   body-parts es start n k x inside ne at e =
       let p = bound (slot k) _ x (sym (ap (body-of slot) (cut es start n k inside ne at)) ∙ e) in
       let q = bound (body-of slot (take (n - 1) (drop (start + 1) es))) _ x (p .2) in

@@ -3,6 +3,7 @@ pub mod arena;
 pub mod environment;
 pub mod place;
 pub mod range;
+pub mod settled;
 pub mod statement;
 pub mod tables;
 pub mod terminal;

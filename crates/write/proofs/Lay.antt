@@ -80,7 +80,7 @@ wrote-before {o} {p} {q} {ws} {vs} {at} {r} w v =
     let z : 4 * (0 + length vs) ≡ 4 * length vs = omega arith in
     let m : 4 * (length vs + length ws) ≡ 4 * (0 + length (vs ++ ws)) = omega (arith, long) in
     let rest : drop (4 * (0 + length vs)) p ≡ bytes ws ++ drop (4 * (0 + length (vs ++ ws))) o =
-      ap₂ drop z (w .is) ∙ drop-at (take (4 * length vs) o) (bytes ws ++ drop (4 * (length vs + length ws)) o) (4 * length vs) n ∙ ap (λ k. bytes ws ++ drop k o) m in
+    ap₂ drop z (w .is) ∙ drop-at (take (4 * length vs) o) (bytes ws ++ drop (4 * (length vs + length ws)) o) (4 * length vs) n ∙ ap (λ k. bytes ws ++ drop k o) m in
     record {
       is =
           v .is ∙ ap (λ l. take 0 p ++ (bytes vs ++ l)) rest

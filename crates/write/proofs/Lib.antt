@@ -3,3 +3,4 @@ pub mod Items
 pub mod Nodes
 pub mod Rows
 pub mod Owned
+pub mod Sections

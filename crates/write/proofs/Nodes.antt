@@ -19,12 +19,12 @@ pub value-at : (d : ℕ) (a : ValueSlots) (k : ℕ) {o : List ℕ} {at : ℕ} (w
 value-at d a k w = value-parts d a k (w .what) (w .stands)
 
 pub value-node : (d : ℕ) (a : ValueSlots) (k : ℕ) {o : List ℕ} {at : ℕ} (w : Writable val-words (value-of d a k) o at) (n m : ReactiveValue)
-  → n ≡ getD (a .values) k n → n ≡ m → val-of a (value-of (d - 1) a) m ≡ Some (w .what)
+    → n ≡ getD (a .values) k n → n ≡ m → val-of a (value-of (d - 1) a) m ≡ Some (w .what)
 value-node d a k w n m h e = sym (ap (val-of a (value-of (d - 1) a)) e) ∙ value-at d a k w .slot n h
 
 pub statement-at : (d : ℕ) (a : Arena) (k : ℕ) {o : List ℕ} {at : ℕ} (w : Writable stmt-words (slot-in d a k) o at) → SlotParts (slots a) (top-value (value-slots (a .inner))) (block-in d a) k (w .what)
 statement-at d a k w = slot-parts (slots a) (top-value (value-slots (a .inner))) (block-in d a) k (w .what) (w .stands)
 
 pub statement-node : (d : ℕ) (a : Arena) (k : ℕ) {o : List ℕ} {at : ℕ} (w : Writable stmt-words (slot-in d a k) o at) (n m : ReactiveStatement)
-  → n ≡ getD (vec-items (a .statements)) k n → n ≡ m → statement-in d a m ≡ Some (w .what)
+    → n ≡ getD (vec-items (a .statements)) k n → n ≡ m → statement-in d a m ≡ Some (w .what)
 statement-node d a k w n m h e = sym (ap (statement-in d a) e) ∙ statement-at d a k w .slot n h

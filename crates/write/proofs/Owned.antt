@@ -50,19 +50,19 @@ module _ (x : ℕ) (ds : List Declared) (i : ℕ) (d : Declared) (h : i < length
 
   -- one turn, at a declaration in the list: there is room for it, and then it stands after those before it
   pub owned-room : {o p : List ℕ} {at r : ℕ} → getD ds i d .owner ≡ x → Wrote o p at (items-words declaration-words (owned x (take i ds))) r
-    → Room o at (items-words declaration-words (owned x ds)) → Room p r (declaration-words (getD ds i d .declaration))
+      → Room o at (items-words declaration-words (owned x ds)) → Room p r (declaration-words (getD ds i d .declaration))
   owned-room e w room =
       let all = ap (items-words declaration-words) (owned-rest e) ∙ items-append declaration-words (owned x (take i ds)) (getD ds i d .declaration ∷ owned x (drop (i + 1) ds)) in
       room-first _ (items-words declaration-words (owned x (drop (i + 1) ds))) (room-rest _ w (room-as all room))
 
   pub owned-wrote : {o p q : List ℕ} {at r s : ℕ} → getD ds i d .owner ≡ x → Wrote o p at (items-words declaration-words (owned x (take i ds))) r
-    → Wrote p q r (declaration-words (getD ds i d .declaration)) s → Wrote o q at (items-words declaration-words (owned x (take (i + 1) ds))) s
+      → Wrote p q r (declaration-words (getD ds i d .declaration)) s → Wrote o q at (items-words declaration-words (owned x (take (i + 1) ds))) s
   owned-wrote e w v =
       let all = ap (items-words declaration-words) (owned-one e) ∙ items-append declaration-words (owned x (take i ds)) (getD ds i d .declaration ∷ []) in
       wrote-as (sym all) (wrote-more w v)
 
   pub owned-passed : {o p : List ℕ} {at r : ℕ} → getD ds i d .owner ≢ x → Wrote o p at (items-words declaration-words (owned x (take i ds))) r
-    → Wrote o p at (items-words declaration-words (owned x (take (i + 1) ds))) r
+      → Wrote o p at (items-words declaration-words (owned x (take (i + 1) ds))) r
   owned-passed ne w = wrote-as (ap (items-words declaration-words) (sym (owned-skip ne))) w
 
 -- ---- scopes
@@ -88,9 +88,9 @@ module _ (ss : List ReactiveScope) (ds : List Declared) (i : ℕ) (s : ReactiveS
       ap scope-words (scopes-at 0 ss ds i s (scope-of s 0 ds) h ∙ ap (λ k. scope-of (getD ss i s) k ds) m)
 
   pub scope-room : {o p : List ℕ} {at r : ℕ} → Wrote o p at (items-words scope-words (take i (scopes-from 0 ss ds))) r
-    → Room o at (items-words scope-words (scopes-from 0 ss ds)) → Room p r (scope-words (scope-of (getD ss i s) x ds))
+      → Room o at (items-words scope-words (scopes-from 0 ss ds)) → Room p r (scope-words (scope-of (getD ss i s) x ds))
   scope-room w room = room-as same (turn-room scope-words (scopes-from 0 ss ds) i (scope-of s 0 ds) here w room)
 
   pub scope-wrote : {o p q : List ℕ} {at r t : ℕ} → Wrote o p at (items-words scope-words (take i (scopes-from 0 ss ds))) r
-    → Wrote p q r (scope-words (scope-of (getD ss i s) x ds)) t → Wrote o q at (items-words scope-words (take (i + 1) (scopes-from 0 ss ds))) t
+      → Wrote p q r (scope-words (scope-of (getD ss i s) x ds)) t → Wrote o q at (items-words scope-words (take (i + 1) (scopes-from 0 ss ds))) t
   scope-wrote w v = turn-wrote scope-words (scopes-from 0 ss ds) i (scope-of s 0 ds) here w (wrote-as (sym same) v)

@@ -2,7 +2,9 @@
 ghost use mathlib.Core.List.{_∷_};
 ghost use Prim.Native.Nat.{_+_, _≤_};
 ghost use Rattle.std.specs.Of.Vec.{vec-len};
+ghost use Rattle.hir.specs.Decode.{root-of};
 ghost use Rattle.hir.specs.Encode.{stmt-words, term-words, cases-words, opt-block-words, body-words, block-words};
+ghost use Rattle.hir.specs.Held.{slots};
 ghost use Rattle.hir.specs.declared.statement.ReactiveStatement.the-variants.{Terminal};
 ghost use Rattle.hir.specs.declared.terminal.ReactiveTerminal.the-variants.{Switch, DoWhile, While, For, ForOf, ForIn, If, Label, Try};
 ghost use Rattle.write.specs.Puts.{Writable, Written};
@@ -24,7 +26,13 @@ use hir::terminal::ReactiveBlock;
 use hir::terminal::ReactiveTerminal;
 use hir::terminal::ReactiveTerminalStatement;
 
-fn put_alt(arena: &Arena, block: Option<ReactiveBlock>, depth: u32, out: &mut [u8], at: usize) -> usize
+fn put_alt(
+    arena: &Arena,
+    block: Option<ReactiveBlock>,
+    depth: u32,
+    out: &mut [u8],
+    at: usize,
+) -> usize
     requires { ⌜ Writable opt-block-words (alternate-in depth (now arena) block) (now out) at ⌝ }
     ensures { λ r. ⌜ Written opt-block-words (alternate-in depth (now (arena .entry)) block) (now (out .entry)) (now (out .exit)) at r ⌝ }
 {
@@ -38,7 +46,14 @@ fn put_alt(arena: &Arena, block: Option<ReactiveBlock>, depth: u32, out: &mut [u
 }
 
 // The cases of a row, without their count.
-fn put_cases(arena: &Arena, start: usize, count: u32, depth: u32, out: &mut [u8], at: usize) -> usize
+fn put_cases(
+    arena: &Arena,
+    start: usize,
+    count: u32,
+    depth: u32,
+    out: &mut [u8],
+    at: usize,
+) -> usize
     requires within { ⌜ start + count ≤ vec-len (now arena .cases) ⌝ }
     requires room { ⌜ Writable cases-words (cases-in depth (now arena) start count) (now out) at ⌝ }
     ensures { λ r. ⌜ Written cases-words (cases-in depth (now (arena .entry)) start count) (now (out .entry)) (now (out .exit)) at r ⌝ }
@@ -52,7 +67,15 @@ fn put_cases(arena: &Arena, start: usize, count: u32, depth: u32, out: &mut [u8]
     put_cases(arena, start + 1, count - 1, depth, out, next)
 }
 
-fn put_switch(arena: &Arena, test: Place, cases: Range, id: u32, depth: u32, out: &mut [u8], at: usize) -> usize
+fn put_switch(
+    arena: &Arena,
+    test: Place,
+    cases: Range,
+    id: u32,
+    depth: u32,
+    out: &mut [u8],
+    at: usize,
+) -> usize
     requires { ⌜ Writable term-words (terminal-in depth (now arena) (Switch test cases id)) (now out) at ⌝ }
     ensures { λ r. ⌜ Written term-words (terminal-in depth (now (arena .entry)) (Switch test cases id)) (now (out .entry)) (now (out .exit)) at r ⌝ }
 {
@@ -63,7 +86,15 @@ fn put_switch(arena: &Arena, test: Place, cases: Range, id: u32, depth: u32, out
     put_word(out, order, id)
 }
 
-fn put_do_while(arena: &Arena, block: ReactiveBlock, test: u32, id: u32, depth: u32, out: &mut [u8], at: usize) -> usize
+fn put_do_while(
+    arena: &Arena,
+    block: ReactiveBlock,
+    test: u32,
+    id: u32,
+    depth: u32,
+    out: &mut [u8],
+    at: usize,
+) -> usize
     requires { ⌜ Writable term-words (terminal-in depth (now arena) (DoWhile block test id)) (now out) at ⌝ }
     ensures { λ r. ⌜ Written term-words (terminal-in depth (now (arena .entry)) (DoWhile block test id)) (now (out .entry)) (now (out .exit)) at r ⌝ }
 {
@@ -73,7 +104,15 @@ fn put_do_while(arena: &Arena, block: ReactiveBlock, test: u32, id: u32, depth: 
     put_word(out, order, id)
 }
 
-fn put_while(arena: &Arena, test: u32, block: ReactiveBlock, id: u32, depth: u32, out: &mut [u8], at: usize) -> usize
+fn put_while(
+    arena: &Arena,
+    test: u32,
+    block: ReactiveBlock,
+    id: u32,
+    depth: u32,
+    out: &mut [u8],
+    at: usize,
+) -> usize
     requires { ⌜ Writable term-words (terminal-in depth (now arena) (While test block id)) (now out) at ⌝ }
     ensures { λ r. ⌜ Written term-words (terminal-in depth (now (arena .entry)) (While test block id)) (now (out .entry)) (now (out .exit)) at r ⌝ }
 {
@@ -83,7 +122,17 @@ fn put_while(arena: &Arena, test: u32, block: ReactiveBlock, id: u32, depth: u32
     put_word(out, order, id)
 }
 
-fn put_for(arena: &Arena, init: u32, test: u32, update: Option<u32>, block: ReactiveBlock, id: u32, depth: u32, out: &mut [u8], at: usize) -> usize
+fn put_for(
+    arena: &Arena,
+    init: u32,
+    test: u32,
+    update: Option<u32>,
+    block: ReactiveBlock,
+    id: u32,
+    depth: u32,
+    out: &mut [u8],
+    at: usize,
+) -> usize
     requires { ⌜ Writable term-words (terminal-in depth (now arena) (For init test update block id)) (now out) at ⌝ }
     ensures { λ r. ⌜ Written term-words (terminal-in depth (now (arena .entry)) (For init test update block id)) (now (out .entry)) (now (out .exit)) at r ⌝ }
 {
@@ -95,7 +144,17 @@ fn put_for(arena: &Arena, init: u32, test: u32, update: Option<u32>, block: Reac
     put_word(out, order, id)
 }
 
-fn put_for_of(arena: &Arena, init: u32, test: u32, block: ReactiveBlock, id: u32, span: u32, depth: u32, out: &mut [u8], at: usize) -> usize
+fn put_for_of(
+    arena: &Arena,
+    init: u32,
+    test: u32,
+    block: ReactiveBlock,
+    id: u32,
+    span: u32,
+    depth: u32,
+    out: &mut [u8],
+    at: usize,
+) -> usize
     requires { ⌜ Writable term-words (terminal-in depth (now arena) (ForOf init test block id span)) (now out) at ⌝ }
     ensures { λ r. ⌜ Written term-words (terminal-in depth (now (arena .entry)) (ForOf init test block id span)) (now (out .entry)) (now (out .exit)) at r ⌝ }
 {
@@ -107,7 +166,16 @@ fn put_for_of(arena: &Arena, init: u32, test: u32, block: ReactiveBlock, id: u32
     put_word(out, last, span)
 }
 
-fn put_for_in(arena: &Arena, init: u32, block: ReactiveBlock, id: u32, span: u32, depth: u32, out: &mut [u8], at: usize) -> usize
+fn put_for_in(
+    arena: &Arena,
+    init: u32,
+    block: ReactiveBlock,
+    id: u32,
+    span: u32,
+    depth: u32,
+    out: &mut [u8],
+    at: usize,
+) -> usize
     requires { ⌜ Writable term-words (terminal-in depth (now arena) (ForIn init block id span)) (now out) at ⌝ }
     ensures { λ r. ⌜ Written term-words (terminal-in depth (now (arena .entry)) (ForIn init block id span)) (now (out .entry)) (now (out .exit)) at r ⌝ }
 {
@@ -118,7 +186,16 @@ fn put_for_in(arena: &Arena, init: u32, block: ReactiveBlock, id: u32, span: u32
     put_word(out, last, span)
 }
 
-fn put_if(arena: &Arena, test: Place, consequent: ReactiveBlock, alternate: Option<ReactiveBlock>, id: u32, depth: u32, out: &mut [u8], at: usize) -> usize
+fn put_if(
+    arena: &Arena,
+    test: Place,
+    consequent: ReactiveBlock,
+    alternate: Option<ReactiveBlock>,
+    id: u32,
+    depth: u32,
+    out: &mut [u8],
+    at: usize,
+) -> usize
     requires { ⌜ Writable term-words (terminal-in depth (now arena) (If test consequent alternate id)) (now out) at ⌝ }
     ensures { λ r. ⌜ Written term-words (terminal-in depth (now (arena .entry)) (If test consequent alternate id)) (now (out .entry)) (now (out .exit)) at r ⌝ }
 {
@@ -129,7 +206,14 @@ fn put_if(arena: &Arena, test: Place, consequent: ReactiveBlock, alternate: Opti
     put_word(out, order, id)
 }
 
-fn put_labeled(arena: &Arena, block: ReactiveBlock, id: u32, depth: u32, out: &mut [u8], at: usize) -> usize
+fn put_labeled(
+    arena: &Arena,
+    block: ReactiveBlock,
+    id: u32,
+    depth: u32,
+    out: &mut [u8],
+    at: usize,
+) -> usize
     requires { ⌜ Writable term-words (terminal-in depth (now arena) (Label block id)) (now out) at ⌝ }
     ensures { λ r. ⌜ Written term-words (terminal-in depth (now (arena .entry)) (Label block id)) (now (out .entry)) (now (out .exit)) at r ⌝ }
 {
@@ -138,7 +222,16 @@ fn put_labeled(arena: &Arena, block: ReactiveBlock, id: u32, depth: u32, out: &m
     put_word(out, order, id)
 }
 
-fn put_try(arena: &Arena, block: ReactiveBlock, binding: Option<Place>, handler: ReactiveBlock, id: u32, depth: u32, out: &mut [u8], at: usize) -> usize
+fn put_try(
+    arena: &Arena,
+    block: ReactiveBlock,
+    binding: Option<Place>,
+    handler: ReactiveBlock,
+    id: u32,
+    depth: u32,
+    out: &mut [u8],
+    at: usize,
+) -> usize
     requires { ⌜ Writable term-words (terminal-in depth (now arena) (Try block binding handler id)) (now out) at ⌝ }
     ensures { λ r. ⌜ Written term-words (terminal-in depth (now (arena .entry)) (Try block binding handler id)) (now (out .entry)) (now (out .exit)) at r ⌝ }
 {
@@ -149,28 +242,91 @@ fn put_try(arena: &Arena, block: ReactiveBlock, binding: Option<Place>, handler:
     put_word(out, order, id)
 }
 
-fn put_term(arena: &Arena, terminal: ReactiveTerminal, depth: u32, out: &mut [u8], at: usize) -> usize
+fn put_term(
+    arena: &Arena,
+    terminal: ReactiveTerminal,
+    depth: u32,
+    out: &mut [u8],
+    at: usize,
+) -> usize
     requires { ⌜ Writable term-words (terminal-in depth (now arena) terminal) (now out) at ⌝ }
     ensures { λ r. ⌜ Written term-words (terminal-in depth (now (arena .entry)) terminal) (now (out .entry)) (now (out .exit)) at r ⌝ }
 {
     match terminal {
-        ReactiveTerminal::Break { target, id, target_kind } => put_jump(0, target, id, target_kind, out, at),
-        ReactiveTerminal::Continue { target, id, target_kind } => put_jump(1, target, id, target_kind, out, at),
+        ReactiveTerminal::Break {
+            target,
+            id,
+            target_kind,
+        } => put_jump(0, target, id, target_kind, out, at),
+        ReactiveTerminal::Continue {
+            target,
+            id,
+            target_kind,
+        } => put_jump(1, target, id, target_kind, out, at),
         ReactiveTerminal::Return { value, id } => put_leave(2, value, id, out, at),
         ReactiveTerminal::Throw { value, id } => put_leave(3, value, id, out, at),
-        ReactiveTerminal::Switch { test, cases, id } => put_switch(arena, test, cases, id, depth, out, at),
-        ReactiveTerminal::DoWhile { loop_block, test, id } => put_do_while(arena, loop_block, test, id, depth, out, at),
-        ReactiveTerminal::While { test, loop_block, id } => put_while(arena, test, loop_block, id, depth, out, at),
-        ReactiveTerminal::For { init, test, update, loop_block, id } => put_for(arena, init, test, update, loop_block, id, depth, out, at),
-        ReactiveTerminal::ForOf { init, test, loop_block, id, span } => put_for_of(arena, init, test, loop_block, id, span, depth, out, at),
-        ReactiveTerminal::ForIn { init, loop_block, id, span } => put_for_in(arena, init, loop_block, id, span, depth, out, at),
-        ReactiveTerminal::If { test, consequent, alternate, id } => put_if(arena, test, consequent, alternate, id, depth, out, at),
+        ReactiveTerminal::Switch { test, cases, id } => put_switch(
+            arena,
+            test,
+            cases,
+            id,
+            depth,
+            out,
+            at,
+        ),
+        ReactiveTerminal::DoWhile {
+            loop_block,
+            test,
+            id,
+        } => put_do_while(arena, loop_block, test, id, depth, out, at),
+        ReactiveTerminal::While {
+            test,
+            loop_block,
+            id,
+        } => put_while(arena, test, loop_block, id, depth, out, at),
+        ReactiveTerminal::For {
+            init,
+            test,
+            update,
+            loop_block,
+            id,
+        } => put_for(arena, init, test, update, loop_block, id, depth, out, at),
+        ReactiveTerminal::ForOf {
+            init,
+            test,
+            loop_block,
+            id,
+            span,
+        } => put_for_of(arena, init, test, loop_block, id, span, depth, out, at),
+        ReactiveTerminal::ForIn {
+            init,
+            loop_block,
+            id,
+            span,
+        } => put_for_in(arena, init, loop_block, id, span, depth, out, at),
+        ReactiveTerminal::If {
+            test,
+            consequent,
+            alternate,
+            id,
+        } => put_if(arena, test, consequent, alternate, id, depth, out, at),
         ReactiveTerminal::Label { block, id } => put_labeled(arena, block, id, depth, out, at),
-        ReactiveTerminal::Try { block, handler_binding, handler, id } => put_try(arena, block, handler_binding, handler, id, depth, out, at),
+        ReactiveTerminal::Try {
+            block,
+            handler_binding,
+            handler,
+            id,
+        } => put_try(arena, block, handler_binding, handler, id, depth, out, at),
     }
 }
 
-fn put_terminal(arena: &Arena, statement: ReactiveTerminalStatement, depth: u32, out: &mut [u8], at: usize) -> usize
+fn put_terminal(
+    arena: &Arena,
+    statement: ReactiveTerminalStatement,
+    depth: u32,
+    out: &mut [u8],
+    at: usize,
+) -> usize
     requires { ⌜ Writable stmt-words (statement-in depth (now arena) (Terminal statement)) (now out) at ⌝ }
     ensures { λ r. ⌜ Written stmt-words (statement-in depth (now (arena .entry)) (Terminal statement)) (now (out .entry)) (now (out .exit)) at r ⌝ }
 {
@@ -180,7 +336,15 @@ fn put_terminal(arena: &Arena, statement: ReactiveTerminalStatement, depth: u32,
 }
 
 // A `Scope` or a `PrunedScope`, by its number.
-fn put_scope(arena: &Arena, number: u32, scope: u32, block: ReactiveBlock, depth: u32, out: &mut [u8], at: usize) -> usize
+fn put_scope(
+    arena: &Arena,
+    number: u32,
+    scope: u32,
+    block: ReactiveBlock,
+    depth: u32,
+    out: &mut [u8],
+    at: usize,
+) -> usize
     requires { ⌜ Writable (λ b. number ∷ scope ∷ block-words b) (block-in depth (now arena) block) (now out) at ⌝ }
     ensures { λ r. ⌜ Written (λ b. number ∷ scope ∷ block-words b) (block-in depth (now (arena .entry)) block) (now (out .entry)) (now (out .exit)) at r ⌝ }
 {
@@ -199,13 +363,36 @@ fn put_stmt(arena: &Arena, slot: u32, depth: u32, out: &mut [u8], at: usize) -> 
             put_instruction(&arena.inner, instruction, out, next)
         }
         ReactiveStatement::Terminal(statement) => put_terminal(arena, statement, depth, out, at),
-        ReactiveStatement::Scope(block) => put_scope(arena, 2, block.scope, block.instructions, depth, out, at),
-        ReactiveStatement::PrunedScope(block) => put_scope(arena, 3, block.scope, block.instructions, depth, out, at),
+        ReactiveStatement::Scope(block) => put_scope(
+            arena,
+            2,
+            block.scope,
+            block.instructions,
+            depth,
+            out,
+            at,
+        ),
+        ReactiveStatement::PrunedScope(block) => put_scope(
+            arena,
+            3,
+            block.scope,
+            block.instructions,
+            depth,
+            out,
+            at,
+        ),
     }
 }
 
 // The statements of a row, without their count.
-fn put_stmts(arena: &Arena, start: usize, count: u32, depth: u32, out: &mut [u8], at: usize) -> usize
+fn put_stmts(
+    arena: &Arena,
+    start: usize,
+    count: u32,
+    depth: u32,
+    out: &mut [u8],
+    at: usize,
+) -> usize
     requires within { ⌜ start + count ≤ vec-len (now arena .entries) ⌝ }
     requires room { ⌜ Writable body-words (body-in depth (now arena) start count) (now out) at ⌝ }
     ensures { λ r. ⌜ Written body-words (body-in depth (now (arena .entry)) start count) (now (out .entry)) (now (out .exit)) at r ⌝ }
@@ -218,10 +405,25 @@ fn put_stmts(arena: &Arena, start: usize, count: u32, depth: u32, out: &mut [u8]
     put_stmts(arena, start + 1, count - 1, depth, out, next)
 }
 
-pub fn put_block(arena: &Arena, block: ReactiveBlock, depth: u32, out: &mut [u8], at: usize) -> usize
+fn put_block(arena: &Arena, block: ReactiveBlock, depth: u32, out: &mut [u8], at: usize) -> usize
     requires { ⌜ Writable block-words (block-in depth (now arena) block) (now out) at ⌝ }
     ensures { λ r. ⌜ Written block-words (block-in depth (now (arena .entry)) block) (now (out .entry)) (now (out .exit)) at r ⌝ }
 {
     let first = put_word(out, at, block.count);
-    put_stmts(arena, block.start as usize, block.count, depth - 1, out, first)
+    put_stmts(
+        arena,
+        block.start as usize,
+        block.count,
+        depth - 1,
+        out,
+        first,
+    )
+}
+
+// The body of a function.
+pub fn put_body(arena: &Arena, root: ReactiveBlock, out: &mut [u8], at: usize) -> usize
+    requires { ⌜ Writable block-words (root-of (slots (now arena)) root) (now out) at ⌝ }
+    ensures { λ r. ⌜ Written block-words (root-of (slots (now (arena .entry))) root) (now (out .entry)) (now (out .exit)) at r ⌝ }
+{
+    put_block(arena, root, 64, out, at)
 }

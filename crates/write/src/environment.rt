@@ -141,7 +141,13 @@ fn put_owned(declared: &[Declared], owner: u32, out: &mut [u8], at: usize) -> us
     next
 }
 
-fn put_scope(scope: ReactiveScope, number: u32, declared: &[Declared], out: &mut [u8], at: usize) -> usize
+fn put_scope(
+    scope: ReactiveScope,
+    number: u32,
+    declared: &[Declared],
+    out: &mut [u8],
+    at: usize,
+) -> usize
     requires within { ⌜ length (now declared) ≤ 1024 ⌝ }
     requires room { ⌜ Room (now out) at (scope-words (scope-of scope number (now declared))) ⌝ }
     ensures { λ r. ⌜ Wrote (now (out .entry)) (now (out .exit)) at (scope-words (scope-of scope number (now (declared .entry)))) r ⌝ }
@@ -151,7 +157,12 @@ fn put_scope(scope: ReactiveScope, number: u32, declared: &[Declared], out: &mut
     put_owned(declared, number, out, first)
 }
 
-pub fn put_scopes(scopes: &[ReactiveScope], declared: &[Declared], out: &mut [u8], at: usize) -> usize
+pub fn put_scopes(
+    scopes: &[ReactiveScope],
+    declared: &[Declared],
+    out: &mut [u8],
+    at: usize,
+) -> usize
     requires within { ⌜ length (now declared) ≤ 1024 ⌝ }
     requires few { ⌜ length (now scopes) ≤ 256 ⌝ }
     requires room { ⌜ Room (now out) at (items-words scope-words (scopes-from 0 (now scopes) (now declared))) ⌝ }

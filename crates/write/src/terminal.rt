@@ -12,7 +12,14 @@ use hir::terminal::ReactiveLabel;
 use hir::terminal::ReactiveTerminalTargetKind;
 
 // A `Break` or a `Continue`, by its number.
-pub fn put_jump(number: u32, target: u32, id: u32, kind: ReactiveTerminalTargetKind, out: &mut [u8], at: usize) -> usize
+pub fn put_jump(
+    number: u32,
+    target: u32,
+    id: u32,
+    kind: ReactiveTerminalTargetKind,
+    out: &mut [u8],
+    at: usize,
+) -> usize
     requires { ⌜ Room (now out) at (number ∷ target ∷ id ∷ word (target-number kind)) ⌝ }
     ensures { λ r. ⌜ Wrote (now (out .entry)) (now (out .exit)) at (number ∷ target ∷ id ∷ word (target-number kind)) r ⌝ }
 {

@@ -30,7 +30,15 @@ fn put_op(arena: &ValueArena, op: InstructionValue, out: &mut [u8], at: usize) -
     put_word(out, span, op.span)
 }
 
-fn put_logical(arena: &ValueArena, operator: LogicalOperator, left: u32, right: u32, depth: u32, out: &mut [u8], at: usize) -> usize
+fn put_logical(
+    arena: &ValueArena,
+    operator: LogicalOperator,
+    left: u32,
+    right: u32,
+    depth: u32,
+    out: &mut [u8],
+    at: usize,
+) -> usize
     requires { ⌜ Writable val-words (val-of (value-slots (now arena)) (value-of depth (value-slots (now arena))) (LogicalExpression operator left right)) (now out) at ⌝ }
     ensures { λ r. ⌜ Written val-words (val-of (value-slots (now (arena .entry))) (value-of depth (value-slots (now (arena .entry)))) (LogicalExpression operator left right)) (now (out .entry)) (now (out .exit)) at r ⌝ }
 {
@@ -40,7 +48,15 @@ fn put_logical(arena: &ValueArena, operator: LogicalOperator, left: u32, right: 
     put_value(arena, right, depth, out, second)
 }
 
-fn put_conditional(arena: &ValueArena, test: u32, consequent: u32, alternate: u32, depth: u32, out: &mut [u8], at: usize) -> usize
+fn put_conditional(
+    arena: &ValueArena,
+    test: u32,
+    consequent: u32,
+    alternate: u32,
+    depth: u32,
+    out: &mut [u8],
+    at: usize,
+) -> usize
     requires { ⌜ Writable val-words (val-of (value-slots (now arena)) (value-of depth (value-slots (now arena))) (ConditionalExpression test consequent alternate)) (now out) at ⌝ }
     ensures { λ r. ⌜ Written val-words (val-of (value-slots (now (arena .entry))) (value-of depth (value-slots (now (arena .entry)))) (ConditionalExpression test consequent alternate)) (now (out .entry)) (now (out .exit)) at r ⌝ }
 {
@@ -50,7 +66,15 @@ fn put_conditional(arena: &ValueArena, test: u32, consequent: u32, alternate: u3
     put_value(arena, alternate, depth, out, third)
 }
 
-fn put_sequence(arena: &ValueArena, instructions: Range, id: u32, value: u32, depth: u32, out: &mut [u8], at: usize) -> usize
+fn put_sequence(
+    arena: &ValueArena,
+    instructions: Range,
+    id: u32,
+    value: u32,
+    depth: u32,
+    out: &mut [u8],
+    at: usize,
+) -> usize
     requires { ⌜ Writable val-words (val-of (value-slots (now arena)) (value-of depth (value-slots (now arena))) (SequenceExpression instructions id value)) (now out) at ⌝ }
     ensures { λ r. ⌜ Written val-words (val-of (value-slots (now (arena .entry))) (value-of depth (value-slots (now (arena .entry)))) (SequenceExpression instructions id value)) (now (out .entry)) (now (out .exit)) at r ⌝ }
 {
@@ -68,7 +92,14 @@ fn put_sequence(arena: &ValueArena, instructions: Range, id: u32, value: u32, de
     put_value(arena, value, depth, out, last)
 }
 
-fn put_optional(arena: &ValueArena, value: u32, optional: bool, depth: u32, out: &mut [u8], at: usize) -> usize
+fn put_optional(
+    arena: &ValueArena,
+    value: u32,
+    optional: bool,
+    depth: u32,
+    out: &mut [u8],
+    at: usize,
+) -> usize
     requires { ⌜ Writable val-words (val-of (value-slots (now arena)) (value-of depth (value-slots (now arena))) (OptionalExpression value optional)) (now out) at ⌝ }
     ensures { λ r. ⌜ Written val-words (val-of (value-slots (now (arena .entry))) (value-of depth (value-slots (now (arena .entry)))) (OptionalExpression value optional)) (now (out .entry)) (now (out .exit)) at r ⌝ }
 {
@@ -77,7 +108,13 @@ fn put_optional(arena: &ValueArena, value: u32, optional: bool, depth: u32, out:
     put_word(out, flag, flag_number(optional))
 }
 
-fn put_instr(arena: &ValueArena, instruction: ReactiveInstruction, depth: u32, out: &mut [u8], at: usize) -> usize
+fn put_instr(
+    arena: &ValueArena,
+    instruction: ReactiveInstruction,
+    depth: u32,
+    out: &mut [u8],
+    at: usize,
+) -> usize
     requires { ⌜ Writable instr-words (instr-of (value-of depth (value-slots (now arena))) instruction) (now out) at ⌝ }
     ensures { λ r. ⌜ Written instr-words (instr-of (value-of depth (value-slots (now (arena .entry)))) instruction) (now (out .entry)) (now (out .exit)) at r ⌝ }
 {
@@ -88,7 +125,14 @@ fn put_instr(arena: &ValueArena, instruction: ReactiveInstruction, depth: u32, o
 }
 
 // The instructions of a row, without their count.
-fn put_instrs(arena: &ValueArena, start: usize, count: u32, depth: u32, out: &mut [u8], at: usize) -> usize
+fn put_instrs(
+    arena: &ValueArena,
+    start: usize,
+    count: u32,
+    depth: u32,
+    out: &mut [u8],
+    at: usize,
+) -> usize
     requires within { ⌜ start + count ≤ vec-len (now arena .instructions) ⌝ }
     requires room { ⌜ Writable instrs-words (instrs-of (value-of depth (value-slots (now arena))) (take count (drop start (vec-items (now arena .instructions))))) (now out) at ⌝ }
     ensures { λ r. ⌜ Written instrs-words (instrs-of (value-of depth (value-slots (now (arena .entry)))) (take count (drop start (vec-items (now (arena .entry) .instructions))))) (now (out .entry)) (now (out .exit)) at r ⌝ }
@@ -110,7 +154,11 @@ fn put_value(arena: &ValueArena, slot: u32, depth: u32, out: &mut [u8], at: usiz
             let next = put_word(out, at, 0);
             put_op(arena, op, out, next)
         }
-        ReactiveValue::LogicalExpression { operator, left, right } => put_logical(arena, operator, left, right, depth - 1, out, at),
+        ReactiveValue::LogicalExpression {
+            operator,
+            left,
+            right,
+        } => put_logical(arena, operator, left, right, depth - 1, out, at),
         ReactiveValue::ConditionalExpression {
             test,
             consequent,
@@ -121,7 +169,14 @@ fn put_value(arena: &ValueArena, slot: u32, depth: u32, out: &mut [u8], at: usiz
             id,
             value,
         } => put_sequence(arena, instructions, id, value, depth - 1, out, at),
-        ReactiveValue::OptionalExpression { value, optional } => put_optional(arena, value, optional, depth - 1, out, at),
+        ReactiveValue::OptionalExpression { value, optional } => put_optional(
+            arena,
+            value,
+            optional,
+            depth - 1,
+            out,
+            at,
+        ),
     }
 }
 
@@ -147,7 +202,12 @@ pub fn put_opt_top(arena: &ValueArena, slot: Option<u32>, out: &mut [u8], at: us
 }
 
 // The instruction of a statement.
-pub fn put_instruction(arena: &ValueArena, instruction: ReactiveInstruction, out: &mut [u8], at: usize) -> usize
+pub fn put_instruction(
+    arena: &ValueArena,
+    instruction: ReactiveInstruction,
+    out: &mut [u8],
+    at: usize,
+) -> usize
     requires { ⌜ Writable instr-words (instr-of (top-value (value-slots (now arena))) instruction) (now out) at ⌝ }
     ensures { λ r. ⌜ Written instr-words (instr-of (top-value (value-slots (now (arena .entry)))) instruction) (now (out .entry)) (now (out .exit)) at r ⌝ }
 {

@@ -11,12 +11,12 @@ use Rattle.write.proofs.environment.count_owned.Needs.{then-one-owner, else-on
 pub loop-one-again : need.loop-one-again
 loop-one-again c =
     elim (c .if-one-owner .came) [
-      then-one-owner w ↦
-        let e = ap length (owned-one (c .args .owner) (c .args .declared .now) (c .loop-one .one-index) _ (c .loop-one-test .taken) (w .if-one-owner .taken)) in
-        (omega (arith, w .count-is, c .loop-one .inv .0, e ∙ length-append (owned (c .args .owner) (take (c .loop-one .one-index) (c .args .declared .now))) _), omega (arith, w .count-is, c .loop-one .inv .1))
-    | else-one-owner w ↦
-        let e = ap length (owned-skip (c .args .owner) (c .args .declared .now) (c .loop-one .one-index) _ (c .loop-one-test .taken) (w .if-one-owner .left)) in
-        (omega (arith, w .count-is, c .loop-one .inv .0, e), omega (arith, w .count-is, c .loop-one .inv .1))
+      | then-one-owner w ↦
+          let e = ap length (owned-one (c .args .owner) (c .args .declared .now) (c .loop-one .one-index) _ (c .loop-one-test .taken) (w .if-one-owner .taken)) in
+          (omega (arith, w .count-is, c .loop-one .inv .0, e ∙ length-append (owned (c .args .owner) (take (c .loop-one .one-index) (c .args .declared .now))) _), omega (arith, w .count-is, c .loop-one .inv .1))
+      | else-one-owner w ↦
+          let e = ap length (owned-skip (c .args .owner) (c .args .declared .now) (c .loop-one .one-index) _ (c .loop-one-test .taken) (w .if-one-owner .left)) in
+          (omega (arith, w .count-is, c .loop-one .inv .0, e), omega (arith, w .count-is, c .loop-one .inv .1))
     ]
 
 pub returns : need.returns

@@ -18,11 +18,11 @@ put-declaration-next-requires c κs =
 pub loop-one-again : need.loop-one-again
 loop-one-again c =
     elim (c .if-one-owner .came) [
-      then-one-owner w ↦
-        wrote-to (w .out-is) (w .next-is)
-        (owned-wrote (c .args .owner) (c .args .declared .now) (c .loop-one .one-index) _ (c .loop-one-test .taken) (w .if-one-owner .taken) (c .loop-one .inv) (w .put-declaration-next .ensures))
-    | else-one-owner w ↦
-        wrote-to (w .out-is) (w .next-is) (owned-passed (c .args .owner) (c .args .declared .now) (c .loop-one .one-index) _ (c .loop-one-test .taken) (w .if-one-owner .left) (c .loop-one .inv))
+      | then-one-owner w ↦
+          wrote-to (w .out-is) (w .next-is)
+          (owned-wrote (c .args .owner) (c .args .declared .now) (c .loop-one .one-index) _ (c .loop-one-test .taken) (w .if-one-owner .taken) (c .loop-one .inv) (w .put-declaration-next .ensures))
+      | else-one-owner w ↦
+          wrote-to (w .out-is) (w .next-is) (owned-passed (c .args .owner) (c .args .declared .now) (c .loop-one .one-index) _ (c .loop-one-test .taken) (w .if-one-owner .left) (c .loop-one .inv))
     ]
 
 pub returns : need.returns

@@ -19,10 +19,11 @@ put-scope-next-requires c κs =
     }
 
 pub loop-scope-again : need.loop-scope-again
-loop-scope-again c =
-    (scope-wrote (c .args .scopes .now) (c .args .declared .now) (c .loop-scope .scope-index) _ (c .loop-scope .number) (c .loop-scope-test .taken) (c .loop-scope .inv .1)
-     (c .loop-scope .inv .0) (c .put-scope-next .ensures),
-     omega (arith, c .loop-scope .inv .1))
+loop-scope-again c = (
+  scope-wrote (c .args .scopes .now) (c .args .declared .now) (c .loop-scope .scope-index) _ (c .loop-scope .number) (c .loop-scope-test .taken) (c .loop-scope .inv .1)
+      (c .loop-scope .inv .0) (c .put-scope-next .ensures),
+  omega (arith, c .loop-scope .inv .1),
+)
 
 pub returns : need.returns
 returns c =
