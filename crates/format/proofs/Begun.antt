@@ -1,12 +1,10 @@
 -- Each item that begins takes one slot, and is within its limit. Assumes nothing.
 use mathlib.Core.Path.{refl}
 use mathlib.Core.List.{[]}
-use Prim.Native.Nat.{ℕ}
 use native.Mathlib.Omega.{arith}
 use lib.Dec.{ltb}
 use borrow.Author.Tests.{ltb-true}
 use Rattle.hir.specs.declared.used.Used.{Used}
-use Rattle.hir.specs.Limits.{Within}
 use Rattle.hir.specs.Sizes.{one-statement, one-value, some-places, one-case}
 use Rattle.format.specs.Parse.{Cursor, begin-statement, begin-value, begin-place, begin-identifier, begin-scope, begin-declaration, begin-case}
 use Rattle.format.proofs.Took.{Used-is, Took, Comes, began}

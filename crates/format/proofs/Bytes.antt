@@ -1,23 +1,19 @@
 -- Bytes hold words: four to a word, and back. Assumes nothing.
-use mathlib.Core.Path.{_≡_, refl, sym, ap, _∙_}
-use mathlib.Core.Bool.{Bool, true, false, cond}
+use mathlib.Core.Path.{_≡_, refl, ap, _∙_}
 use mathlib.Core.List.{List, [], _∷_}
-use Prim.Native.Nat.{ℕ, suc, _+_, _*_, _/_, _%_, _<_, _≤_}
+use Prim.Native.Nat.{ℕ, _+_, _*_, _/_, _%_, _<_, _≤_}
 use native.Mathlib.Omega.{arith}
 use lib.Dec.{eqb, leb}
 use lib.ListN.{length}
 use borrow.Author.Tests.{eqb-true, leb-true}
 use Rattle.std.specs.shelf.Lists.{All}
-use Rattle.std.specs.declared.result.Result.{Result}
-use Rattle.std.specs.declared.result.Result.the-variants.{Ok, Err}
+use Rattle.std.specs.declared.result.Result.the-variants.{Ok}
 use Rattle.hir.specs.Encode.{encode}
 use Rattle.hir.specs.Tree.{Function}
-use Rattle.format.specs.declared.fault.FileFault.{FileFault}
 use Rattle.format.specs.declared.fault.FileFault.the-variants.{Length}
 use Rattle.format.specs.Parse.{parse, parse-file}
 use Rattle.format.specs.RoundTrip.{Bytes-come-back}
 use Rattle.format.specs.Words.{words, bytes}
-use Rattle.format.proofs.Took.{err-ok}
 use Rattle.format.proofs.Sections.{cond-true}
 use Rattle.format.proofs.Undone.{words-come-back}
 

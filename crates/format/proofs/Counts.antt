@@ -1,7 +1,7 @@
 -- The slots that a reading counts are those that the function takes, and they are within the limits. Assumes nothing.
-use mathlib.Core.Path.{_≡_, refl, ap, subst, _∙_}
+use mathlib.Core.Path.{_≡_, ap, subst, _∙_}
 use mathlib.Core.List.{List}
-use Prim.Native.Nat.{ℕ, _+_}
+use Prim.Native.Nat.{ℕ}
 use native.Mathlib.Omega.{arith}
 use lib.ListN.{length}
 use Rattle.std.specs.declared.result.Result.the-variants.{Ok}
@@ -12,12 +12,12 @@ use Rattle.hir.specs.Encode.{items-words, counters-words, identifier-words, sco
 use Rattle.hir.specs.Limits.{Within, limits}
 use Rattle.hir.specs.Sizes.{none, plus, declarations-in, block-size, sizes}
 use Rattle.hir.specs.Tree.{Block, ScopeInfo, Function}
-use Rattle.format.specs.Parse.{Cursor, Read, section, counters, every, identifier, scope-info, block, parse}
-use Rattle.format.specs.RoundTrip.{Counted, Slots-are-counted, Read-is-within}
-use Rattle.format.proofs.Took.{Used-is, Took, Comes, weaker, nothing}
+use Rattle.format.specs.Parse.{section, counters, every, identifier, scope-info, block}
+use Rattle.format.specs.RoundTrip.{Slots-are-counted, Read-is-within}
+use Rattle.format.proofs.Took.{Used-is, weaker, nothing}
 use Rattle.format.proofs.TookStatements.{block-took}
 use Rattle.format.proofs.TookTables.{counters-passed, some-identifiers, identifiers-took, some-scopes, scopes-took}
-use Rattle.format.proofs.Sections.{Covers, section-covers, Parsed, parse-parsed}
+use Rattle.format.proofs.Sections.{Covers, section-covers, parse-parsed}
 
 -- ---- each section, with its words and its slots
 pub counters-cover : (ws : List ℕ) (from to : ℕ) (u : Used) (r : Counters × Used) → section counters ws from to u ≡ Ok r → Covers ws from to u (r .1) (counters-words (r .0)) none

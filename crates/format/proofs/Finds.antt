@@ -3,14 +3,12 @@
 use mathlib.Core.Path.{_≡_, refl, sym, ap, subst, _∙_}
 use mathlib.Core.Bool.{Bool, true, false, cond}
 use mathlib.Core.List.{List, [], _∷_, _++_, append-assoc}
-use Prim.Native.Nat.{ℕ, zero, suc, _+_, _≤_, _<_}
+use Prim.Native.Nat.{ℕ, _+_, _≤_, _<_}
 use native.Mathlib.Omega.{arith}
-use lib.Dec.{ltb, leb}
 use lib.ListN.{length}
 use borrow.Author.Tests.{lt-ltb, le-leb}
 use Rattle.std.specs.declared.option.Option.{Option}
 use Rattle.std.specs.declared.option.Option.the-variants.{Some, None}
-use Rattle.std.specs.declared.result.Result.{Result}
 use Rattle.std.specs.declared.result.Result.the-variants.{Ok, Err}
 use Rattle.hir.specs.declared.used.Used.{Used}
 use Rattle.hir.specs.Encode.{option-words, items-words, list-words}
@@ -18,9 +16,8 @@ use Rattle.hir.specs.Limits.{Within, limits}
 use Rattle.hir.specs.Numbers.{flag-number}
 use Rattle.hir.specs.Options.{nth}
 use Rattle.hir.specs.Sizes.{none, plus}
-use Rattle.format.specs.declared.fault.FileFault.{FileFault}
 use Rattle.format.specs.declared.fault.FileFault.the-variants.{Reading, Limit}
-use Rattle.format.specs.Parse.{Cursor, Read, onto, give, next-of, word, below, order, chosen, case, flag, option, times, listed, counted, until-end}
+use Rattle.format.specs.Parse.{Cursor, Read, onto, give, next-of, word, below, order, chosen, case, flag, option, times, listed, counted}
 use Rattle.format.proofs.Took.{plus-assoc, plus-none, opt-size, items-size}
 
 -- the words ws stand at the cursor, in front of vs, and there is room for the slots s

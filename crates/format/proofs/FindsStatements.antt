@@ -1,15 +1,14 @@
 -- A block that fits is found where its words stand. Assumes nothing.
-use mathlib.Core.Path.{_≡_, refl}
-use mathlib.Core.List.{List, [], _∷_, _++_}
-use Prim.Native.Nat.{ℕ, zero, suc, max, _≤_}
+use mathlib.Core.Path.{refl}
+use mathlib.Core.List.{List, [], _∷_}
+use Prim.Native.Nat.{ℕ, zero, suc, _≤_}
 use native.Mathlib.Omega.{arith}
-use Rattle.std.specs.declared.option.Option.{Option}
 use Rattle.hir.specs.declared.terminal.ReactiveLabel.{ReactiveLabel}
 use Rattle.hir.specs.declared.terminal.ReactiveTerminalTargetKind.{ReactiveTerminalTargetKind}
 use Rattle.hir.specs.declared.terminal.ReactiveTerminalTargetKind.the-variants.{Implicit, Labeled, Unlabeled}
 use Rattle.hir.specs.Encode.{option-words, place-words, val-words, instr-words, opt-val-words, label-words, case-count, stmt-count, stmt-words, term-words, cases-words, opt-block-words, body-words, block-words}
-use Rattle.hir.specs.Numbers.{flag-number, target-number}
-use Rattle.hir.specs.Sizes.{none, val-size, instr-size, opt-val-size, stmt-size, term-size, cases-size, opt-block-size, block-size}
+use Rattle.hir.specs.Numbers.{target-number}
+use Rattle.hir.specs.Sizes.{val-size, instr-size, opt-val-size, stmt-size, term-size, cases-size, opt-block-size, block-size}
 use Rattle.hir.specs.Tree.{Val, OptVal, noVal, someVal, Instr, instr, Stmt, instruction, scope, pruned, terminal, Term, break, continue, return, throw, switch, doWhile, while, for, forOf, forIn, if, label, try, Cases, knil, kcons, OptBlock, noBlock, someBlock, Block, nil, cons}
 use Rattle.format.specs.Depth.{block-depth, stmt-depth, term-depth, cases-depth, opt-block-depth}
 use Rattle.format.specs.Readable.{Top-fits, OptVal-fits, Instruction-fits, Stmt-fits, Term-fits, Cases-fit, OptBlock-fits, Block-fits}

@@ -1,10 +1,9 @@
 -- The items of the tables are found where their words stand, and to the section's end. Assumes nothing.
-use mathlib.Core.Path.{_≡_, refl, sym, ap, subst, _∙_}
+use mathlib.Core.Path.{_≡_, refl, sym, ap, _∙_}
 use mathlib.Core.List.{List, [], _∷_, _++_}
 use Prim.Native.Nat.{ℕ, zero, suc, _+_, _≤_}
 use native.Mathlib.Omega.{arith}
 use lib.ListN.{length, length-append}
-use Rattle.std.specs.declared.result.Result.the-variants.{Ok}
 use Rattle.hir.specs.declared.environment.Counters.{Counters}
 use Rattle.hir.specs.declared.environment.Identifier.{Identifier}
 use Rattle.hir.specs.declared.environment.IdentifierName.{IdentifierName}
@@ -13,12 +12,12 @@ use Rattle.hir.specs.declared.environment.ReactiveScopeDeclaration.{ReactiveSco
 use Rattle.hir.specs.declared.environment.ReactiveScopeEarlyReturn.{ReactiveScopeEarlyReturn}
 use Rattle.hir.specs.declared.used.Used.{Used}
 use Rattle.hir.specs.Encode.{word as one-word, option-words, list-words, items-words, name-words, identifier-words, early-words, declaration-words, scope-words, counters-words}
-use Rattle.hir.specs.Sizes.{none, plus, declarations-in}
+use Rattle.hir.specs.Sizes.{declarations-in}
 use Rattle.hir.specs.Tree.{ScopeInfo}
 use Rattle.format.specs.Readable.{Order}
-use Rattle.format.specs.Parse.{Cursor, Read, onto, give, word, case, option, names, identifier, early-read, declaration, scope-info, until-end, every, counters}
-use Rattle.format.proofs.Took.{Used-is, items-size}
-use Rattle.format.proofs.Begun.{one-identifier, one-scope, one-declaration}
+use Rattle.format.specs.Parse.{Cursor, Read, word, case, names, identifier, early-read, declaration, scope-info, until-end, every, counters}
+use Rattle.format.proofs.Took.{items-size}
+use Rattle.format.proofs.Begun.{one-identifier, one-declaration}
 use Rattle.format.proofs.TookTables.{some-identifiers, some-scopes, identifiers-size, scopes-size, one-scope-size}
 use Rattle.format.proofs.Finds.{Faces, Shows, Finds, Sees, both, then, ends, on, made, formed, plain, nothing, given, faces-sized, finds-sized, word-sees, order-sees, case-sees, option-sees, listed-finds}
 use Rattle.format.proofs.Begins.{identifier-begins, scope-begins, declaration-begins}

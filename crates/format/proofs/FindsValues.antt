@@ -1,14 +1,13 @@
 -- A value that fits is found where its words stand. Assumes nothing.
-use mathlib.Core.Path.{_≡_, refl, sym, ap, subst, _∙_}
+use mathlib.Core.Path.{_≡_, refl, sym}
 use mathlib.Core.Bool.{Bool, true, false, cond}
-use mathlib.Core.List.{List, [], _∷_, _++_}
-use Prim.Native.Nat.{ℕ, zero, suc, max, _+_, _<_, _≤_}
+use mathlib.Core.List.{List, [], _∷_}
+use Prim.Native.Nat.{ℕ, zero, suc, _<_, _≤_}
 use native.Mathlib.Omega.{arith}
 use lib.Dec.{eqb}
 use lib.ListN.{length}
 use borrow.Author.Tests.{eqb-true}
 use Rattle.std.specs.declared.option.Option.{Option}
-use Rattle.std.specs.declared.option.Option.the-variants.{Some, None}
 use Rattle.hir.specs.declared.place.Effect.{Effect}
 use Rattle.hir.specs.declared.place.Effect.the-variants.{Unknown, Freeze, Read as ReadEffect, Capture, ConditionallyMutateIterator, ConditionallyMutate, Mutate, Store}
 use Rattle.hir.specs.declared.place.Place.{Place}
@@ -16,7 +15,7 @@ use Rattle.hir.specs.declared.value.LogicalOperator.{LogicalOperator}
 use Rattle.hir.specs.declared.value.LogicalOperator.the-variants.{Or, And, Coalesce}
 use Rattle.hir.specs.Encode.{option-words, list-words, place-words, op-words, instr-count, val-words, instr-words, instrs-words}
 use Rattle.hir.specs.Numbers.{effect-number, operator-number, flag-number}
-use Rattle.hir.specs.Sizes.{none, plus, one-statement, one-value, some-places, opt-place-size, val-size, instr-size, instrs-size}
+use Rattle.hir.specs.Sizes.{plus, some-places, opt-place-size, val-size, instr-size, instrs-size}
 use Rattle.hir.specs.Tree.{Op, Val, operation, logical, conditional, sequence, optional, Instr, instr, Instrs, inil, icons}
 use Rattle.format.specs.Depth.{value-depth, instr-depth, instrs-depth}
 use Rattle.format.specs.Readable.{Known, Val-fits, Instr-fits, Instrs-fit}

@@ -1,28 +1,27 @@
 -- What is read fits: depths, evaluation orders and kinds are kept to. Assumes nothing.
-use mathlib.Core.Path.{_≡_, refl, sym, ap, subst, _∙_}
+use mathlib.Core.Path.{_≡_, refl, sym, subst}
 use mathlib.Core.Bool.{Bool, true, false, cond}
 use mathlib.Core.List.{List, [], _∷_}
-use Prim.Native.Nat.{ℕ, zero, suc, max, _+_, _-_, _*_, _/_, _<_, _≤_}
+use Prim.Native.Nat.{ℕ, zero, suc, max, _-_, _<_, _≤_}
 use native.Mathlib.Omega.{arith}
 use lib.Dec.{eqb, ltb, leb}
 use lib.ListN.{take, drop}
 use borrow.Author.Tests.{ltb-true, leb-true, eq-eqb}
 use Rattle.std.specs.shelf.Lists.{All}
 use Rattle.std.specs.declared.result.Result.the-variants.{Ok, Err}
-use Rattle.hir.specs.declared.environment.Counters.{Counters}
 use Rattle.hir.specs.declared.used.Used.{Used}
-use Rattle.hir.specs.Tree.{Op, Val, operation, logical, conditional, sequence, optional, OptVal, noVal, someVal, Instr, instr, Instrs, inil, icons, Stmt, instruction, scope, pruned, terminal, Term, break, continue, return, throw, switch, doWhile, while, for, forOf, forIn, if, label, try, Cases, knil, kcons, OptBlock, noBlock, someBlock, Block, nil, cons, Function}
+use Rattle.hir.specs.Tree.{Val, operation, noVal, someVal, instruction, scope, pruned, break, continue, return, throw, noBlock, someBlock, Block}
 use Rattle.format.specs.declared.fault.FileFault.{FileFault}
 use Rattle.format.specs.declared.fault.FileFault.the-variants.{Reading, Limit}
 use Rattle.format.specs.Depth.{value-depth, instr-depth, instrs-depth, block-depth, stmt-depth, term-depth, cases-depth, opt-block-depth}
-use Rattle.format.specs.Readable.{Order, Known, Val-fits, Instr-fits, Instrs-fit, Top-fits, OptVal-fits, Instruction-fits, Stmt-fits, Term-fits, Cases-fit, OptBlock-fits, Block-fits, Readable, Holds, Only-readable, Only-held}
-use Rattle.format.specs.Parse.{Cursor, Read, onto, give, word, below, order, case, flag, option, listed, place, payload, op, operators, instr-read, instrs-read, logical-read, conditional-read, sequence-read, optional-read, val-read, value, top-value, begin-statement, begin-value, begin-case, instruction-read, opt-value, targets, label-read, jump-read, leave-read, opt-block, cases-read, switch-read, do-while-read, while-read, for-read, for-of-read, for-in-read, if-read, label-block-read, try-read, term-read, terminal-read, scope-read, stmt-read, stmts-read, block, counters, section, andThen, to-end, parse}
+use Rattle.format.specs.Readable.{Order, Known, Val-fits, Instr-fits, Instrs-fit, Top-fits, OptVal-fits, Instruction-fits, Stmt-fits, Term-fits, Cases-fit, OptBlock-fits, Block-fits, Only-readable, Only-held}
+use Rattle.format.specs.Parse.{Cursor, Read, onto, give, word, below, order, case, flag, option, listed, place, op, operators, instr-read, instrs-read, logical-read, conditional-read, sequence-read, optional-read, val-read, value, top-value, begin-statement, begin-value, begin-case, instruction-read, opt-value, targets, label-read, jump-read, leave-read, opt-block, cases-read, switch-read, do-while-read, while-read, for-read, for-of-read, for-in-read, if-read, label-block-read, try-read, term-read, terminal-read, scope-read, stmt-read, stmts-read, block, counters, section}
 use Rattle.format.specs.Words.{words}
-use Rattle.format.proofs.Took.{Comes, after, weaker, given, refused, Each, case-comes}
-use Rattle.format.proofs.Sections.{andThen-ok, to-end-ok, Parsed, parse-parsed}
+use Rattle.format.proofs.Took.{Comes, after, weaker, given, refused, case-comes}
+use Rattle.format.proofs.Sections.{andThen-ok, to-end-ok, parse-parsed}
 use Rattle.format.proofs.Counts.{read-is-within}
 use Rattle.format.proofs.Undone.{words-come-back}
-use Rattle.format.proofs.Bytes.{Whole, file-whole, as-long-as-its-bytes}
+use Rattle.format.proofs.Bytes.{file-whole, as-long-as-its-bytes}
 
 -- nothing is asked of what comes
 any : {X : Type 0} (r : Read X) → Comes r (λ _ _. Unit {0})

@@ -16,3 +16,4 @@ pub mod Rereads
 pub mod Fitting
 pub mod Places
 pub mod Refusals
+pub mod Longest

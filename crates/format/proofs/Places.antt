@@ -1,24 +1,22 @@
 -- A reading that fails is refused at a word that it has in front of it, or at the first word after those. Assumes nothing.
-use mathlib.Core.Path.{_≡_, refl, sym, ap, subst, _∙_}
+use mathlib.Core.Path.{_≡_, refl, subst, _∙_}
 use mathlib.Core.Bool.{Bool, true, false, cond}
 use mathlib.Core.List.{List, [], _∷_}
 use Prim.Native.Nat.{ℕ, zero, suc, _+_, _-_, _≤_}
 use native.Mathlib.Omega.{arith}
 use lib.Dec.{eqb, ltb, leb}
 use lib.ListN.{length, take, drop}
-use Rattle.std.specs.declared.option.Option.{Option}
 use Rattle.std.specs.declared.option.Option.the-variants.{Some, None}
 use Rattle.std.specs.declared.result.Result.{Result}
 use Rattle.std.specs.declared.result.Result.the-variants.{Ok, Err}
-use Rattle.hir.specs.declared.environment.IdentifierName.the-variants.{Named, Promoted}
 use Rattle.hir.specs.declared.place.Place.{Place}
 use Rattle.hir.specs.declared.terminal.ReactiveTerminalTargetKind.{ReactiveTerminalTargetKind}
 use Rattle.hir.specs.declared.used.Used.{Used}
 use Rattle.hir.specs.Options.{nth}
-use Rattle.hir.specs.Tree.{Op, Val, operation, logical, conditional, sequence, optional, OptVal, noVal, someVal, Instr, instr, Instrs, inil, icons, Stmt, instruction, scope, pruned, terminal, Term, break, continue, return, throw, switch, doWhile, while, for, forOf, forIn, if, label, try, Cases, knil, kcons, OptBlock, noBlock, someBlock, Block, nil, cons}
+use Rattle.hir.specs.Tree.{Val, operation, noVal, someVal, Stmt, instruction, scope, pruned, Term, break, continue, return, throw, noBlock, someBlock, Block}
 use Rattle.format.specs.declared.fault.FileFault.{FileFault}
 use Rattle.format.specs.declared.fault.FileFault.the-variants.{Length, Pairs, Reading, Limit}
-use Rattle.format.specs.Parse.{Cursor, Read, onto, give, next-of, word, below, order, chosen, case, flag, option, times, listed, counted, begin-statement, begin-value, begin-place, begin-identifier, begin-scope, begin-declaration, begin-case, effects, place, payload, op, operators, instr-read, instrs-read, logical-read, conditional-read, sequence-read, optional-read, val-read, value, top-value, instruction-read, opt-value, targets, label-read, jump-read, leave-read, opt-block, cases-read, switch-read, do-while-read, while-read, for-read, for-of-read, for-in-read, if-read, label-block-read, try-read, term-read, terminal-read, scope-read, stmt-read, stmts-read, block, names, identifier, early-read, declaration, scope-info, until-end, every, counters, andThen, to-end, section}
+use Rattle.format.specs.Parse.{Cursor, Read, onto, give, next-of, word, below, order, chosen, case, flag, option, times, listed, counted, begin-statement, effects, place, op, operators, instr-read, instrs-read, logical-read, conditional-read, sequence-read, optional-read, val-read, value, top-value, instruction-read, opt-value, targets, label-read, jump-read, leave-read, opt-block, cases-read, switch-read, do-while-read, while-read, for-read, for-of-read, for-in-read, if-read, label-block-read, try-read, term-read, terminal-read, scope-read, stmt-read, stmts-read, block, names, identifier, early-read, declaration, scope-info, until-end, every, counters, andThen, to-end, section}
 use Rattle.format.proofs.Undone.{part-long}
 
 -- a fault of the reading, at a word from `from` to `to`

@@ -2,13 +2,12 @@
 use mathlib.Core.Path.{_≡_, refl, sym, ap, subst, _∙_}
 use mathlib.Core.Bool.{Bool, true, false, cond}
 use mathlib.Core.List.{List, [], _∷_}
-use Prim.Native.Nat.{ℕ, suc, _+_, _%_, _≤_}
+use Prim.Native.Nat.{ℕ, suc, _+_, _%_}
 use native.Mathlib.Omega.{arith}
 use lib.Dec.{eqb, leb}
 use lib.ListN.{length, getD}
 use borrow.Author.Tests.{eqb-true, leb-true, eq-eqb, le-leb}
 use Rattle.std.specs.shelf.Lists.{All}
-use Rattle.std.specs.declared.option.Option.{Option}
 use Rattle.std.specs.declared.option.Option.the-variants.{Some, None}
 use Rattle.std.specs.declared.result.Result.{Result}
 use Rattle.std.specs.declared.result.Result.the-variants.{Ok, Err}
@@ -17,7 +16,7 @@ use Rattle.hir.specs.Sizes.{none}
 use Rattle.hir.specs.Tree.{Function}
 use Rattle.format.specs.declared.fault.FileFault.{FileFault}
 use Rattle.format.specs.declared.fault.FileFault.the-variants.{Length, Pairs, Reading, Limit}
-use Rattle.format.specs.Parse.{andThen, pair, section, counters, every, identifier, scope-info, block, parse, parse-file}
+use Rattle.format.specs.Parse.{andThen, section, counters, every, identifier, scope-info, block, parse, parse-file}
 use Rattle.format.specs.Readable.{Readable}
 use Rattle.format.specs.Refusals.{Length-good, first-no, pairs-good, Unreadable, Reads, Says, First-no-is-told}
 use Rattle.format.specs.Words.{words}

@@ -2,7 +2,7 @@
 use mathlib.Core.Path.{_≡_, refl, sym, ap, subst, _∙_}
 use mathlib.Core.Bool.{true, false, cond}
 use mathlib.Core.List.{List, [], _∷_, _++_, append-assoc, append-nil}
-use Prim.Native.Nat.{ℕ, _+_, _-_, _*_, _%_, _≤_}
+use Prim.Native.Nat.{ℕ, _+_, _-_, _%_, _≤_}
 use native.Mathlib.Omega.{arith}
 use lib.Dec.{eqb, leb}
 use lib.ListN.{length, getD, take, drop, length-append}
@@ -11,19 +11,19 @@ use borrow.Author.Tests.{eq-eqb, le-leb}
 use Rattle.std.specs.declared.result.Result.{Result}
 use Rattle.std.specs.declared.result.Result.the-variants.{Ok, Err}
 use Rattle.hir.specs.declared.used.Used.{Used}
-use Rattle.hir.specs.Encode.{items-words, counters-words, identifier-words, scope-words, block-words, body-words, stmt-count, sections, encode}
+use Rattle.hir.specs.Encode.{items-words, counters-words, identifier-words, scope-words, block-words, encode}
 use Rattle.hir.specs.Limits.{Within, limits}
-use Rattle.hir.specs.Sizes.{none, plus, declarations-in, block-size, sizes}
+use Rattle.hir.specs.Sizes.{none, plus, declarations-in, block-size}
 use Rattle.hir.specs.Tree.{Function}
 use Rattle.format.specs.declared.fault.FileFault.{FileFault}
 use Rattle.format.specs.declared.fault.FileFault.the-variants.{Length, Pairs}
 use Rattle.format.specs.Parse.{Cursor, Read, andThen, to-end, section, pair, counters, identifier, scope-info, every, block, parse, parse-file}
-use Rattle.format.specs.Readable.{Readable, Holds, Words-are-read, Bytes-are-read}
+use Rattle.format.specs.Readable.{Readable, Words-are-read, Bytes-are-read}
 use Rattle.format.specs.Words.{words, bytes}
 use Rattle.format.proofs.Sections.{Parsed}
 use Rattle.format.proofs.Counts.{sum-is-sizes}
 use Rattle.format.proofs.Bytes.{bytes-length, words-bytes}
-use Rattle.format.proofs.Finds.{Faces, Shows, Finds, nothing, plain}
+use Rattle.format.proofs.Finds.{Faces, Finds, nothing, plain}
 use Rattle.format.proofs.FindsStatements.{block-finds}
 use Rattle.format.proofs.FindsTables.{counters-sees, identifiers-find, scopes-find}
 use Rattle.format.proofs.TookTables.{some-identifiers, some-scopes}

@@ -17,7 +17,7 @@ use Rattle.hir.specs.Sizes.{none, plus}
 use Rattle.hir.specs.Tree.{Block, ScopeInfo, Function}
 use Rattle.format.specs.declared.fault.FileFault.{FileFault}
 use Rattle.format.specs.declared.fault.FileFault.the-variants.{Pairs}
-use Rattle.format.specs.Parse.{Cursor, Read, identifier, scope-info, every, counters, block, andThen, to-end, section, ends-well, pair, parse}
+use Rattle.format.specs.Parse.{Cursor, Read, identifier, scope-info, every, counters, block, andThen, to-end, section, pair, parse}
 use Rattle.format.proofs.Took.{err-ok, ok-ok, Took, Comes}
 
 pub andThen-ok : {X Y : Type 0} (r : Result X FileFault) (f : X → Result Y FileFault) (y : Y) → andThen r f ≡ Ok y → (x : X) × (r ≡ Ok x) × (f x ≡ Ok y)
@@ -89,16 +89,17 @@ pub record Parsed (ws : List ℕ) (F : Function) : Type 0 where
   pub s₃ : section (every scope-info) ws e₂ e₃ u₂ ≡ Ok (F .scopes, u₃)
   pub s₄ : section (block 64) ws e₃ e₄ u₃ ≡ Ok (F .body, u₄)
 
+of-parts : (ws : List ℕ) (F : Function) (e₁ e₂ e₃ e₄ : ℕ) (c : Counters × Used) (i : List Identifier × Used) (s : List ScopeInfo × Used) (b : Block × Used) → pair ws 0 false 8 ≡ Ok e₁ → pair ws 2 false e₁ ≡ Ok e₂ → pair ws 4 false e₂ ≡ Ok e₃ → pair ws 6 true e₃ ≡ Ok e₄ → section counters ws 8 e₁ none ≡ Ok c → section (every identifier) ws e₁ e₂ (c .1) ≡ Ok i → section (every scope-info) ws e₂ e₃ (i .1) ≡ Ok s → section (block 64) ws e₃ e₄ (s .1) ≡ Ok b → _≡_ {A = Function} (record { counters = c .0; identifiers = i .0; scopes = s .0; body = b .0 }) F → Parsed ws F
+of-parts ws F e₁ e₂ e₃ e₄ c i s b p₁ p₂ p₃ p₄ s₁ s₂ s₃ s₄ same =
+    subst (λ (G : Function). Parsed ws G) same
+    (record { e₁ = e₁; e₂ = e₂; e₃ = e₃; e₄ = e₄; u₁ = c .1; u₂ = i .1; u₃ = s .1; u₄ = b .1; p₁ = p₁; p₂ = p₂; p₃ = p₃; p₄ = p₄; s₁ = s₁; s₂ = s₂; s₃ = s₃; s₄ = s₄ })
+
+andThen-elim : {X Y G : Type 0} (r : Result X FileFault) (f : X → Result Y FileFault) (y : Y) → andThen r f ≡ Ok y → ((x : X) → r ≡ Ok x → f x ≡ Ok y → G) → G
+andThen-elim r f y e k = let a = andThen-ok r f y e in k (a .0) (a .1) (a .2)
+
 pub parse-parsed : (ws : List ℕ) (F : Function) → parse ws ≡ Ok F → Parsed ws F
 unfolding parse
 parse-parsed ws F e =
-    let a = andThen-ok (pair ws 0 false 8) _ F e in
-    let b = andThen-ok (pair ws 2 false (a .0)) _ F (a .2) in
-    let c = andThen-ok (pair ws 4 false (b .0)) _ F (b .2) in
-    let d = andThen-ok (pair ws 6 true (c .0)) _ F (c .2) in
-    let m = andThen-ok (section counters ws 8 (a .0) none) _ F (d .2) in
-    let n = andThen-ok (section (every identifier) ws (a .0) (b .0) (m .0 .1)) _ F (m .2) in
-    let o = andThen-ok (section (every scope-info) ws (b .0) (c .0) (n .0 .1)) _ F (n .2) in
-    let q = andThen-ok (section (block 64) ws (c .0) (d .0) (o .0 .1)) _ F (o .2) in
-    subst (λ (G : Function). Parsed ws G) (ok-ok (q .2))
-    (record { e₁ = a .0; e₂ = b .0; e₃ = c .0; e₄ = d .0; u₁ = m .0 .1; u₂ = n .0 .1; u₃ = o .0 .1; u₄ = q .0 .1; p₁ = a .1; p₂ = b .1; p₃ = c .1; p₄ = d .1; s₁ = m .1; s₂ = n .1; s₃ = o .1; s₄ = q .1 })
+    andThen-elim (pair ws 0 false 8) _ F e (λ e₁ p₁ e. andThen-elim (pair ws 2 false e₁) _ F e (λ e₂ p₂ e. andThen-elim (pair ws 4 false e₂) _ F e (λ e₃ p₃ e. andThen-elim (pair ws 6 true e₃) _ F e (λ e₄ p₄ e.
+    andThen-elim (section counters ws 8 e₁ none) _ F e (λ c s₁ e. andThen-elim (section (every identifier) ws e₁ e₂ (c .1)) _ F e (λ i s₂ e. andThen-elim (section (every scope-info) ws e₂ e₃ (i .1)) _ F e (λ s s₃ e. andThen-elim (section (block 64) ws e₃ e₄ (s .1)) _ F e (λ b s₄ e.
+    of-parts ws F e₁ e₂ e₃ e₄ c i s b p₁ p₂ p₃ p₄ s₁ s₂ s₃ s₄ (ok-ok e)))))))))

@@ -1,12 +1,12 @@
 -- What the reading of a block takes: its words and its slots. Assumes nothing.
 use mathlib.Core.Path.{_≡_, refl, sym, ap, subst}
-use mathlib.Core.List.{List, [], _∷_, _++_}
+use mathlib.Core.List.{[], _∷_, _++_}
 use Prim.Native.Nat.{ℕ, zero, suc}
-use Rattle.hir.specs.Encode.{word as one-word, option-words, place-words, val-words, opt-val-words, label-words, case-count, stmt-count, stmt-words, term-words, cases-words, opt-block-words, body-words, block-words}
+use Rattle.hir.specs.Encode.{word as one-word, place-words, opt-val-words, label-words, case-count, stmt-count, stmt-words, term-words, cases-words, opt-block-words, body-words, block-words}
 use Rattle.hir.specs.Numbers.{target-number}
-use Rattle.hir.specs.Sizes.{none, opt-val-size, stmt-size, term-size, cases-size, opt-block-size, block-size}
-use Rattle.hir.specs.Tree.{OptVal, noVal, someVal, Stmt, instruction, scope, pruned, terminal, Term, break, continue, return, throw, switch, doWhile, while, for, forOf, forIn, if, label, try, Cases, knil, kcons, OptBlock, noBlock, someBlock, Block, nil, cons}
-use Rattle.format.specs.Parse.{Cursor, Read, onto, give, case, option, top-value, instruction-read, opt-value, targets, label-read, jump-read, leave-read, opt-block, cases-read, switch-read, do-while-read, while-read, for-read, for-of-read, for-in-read, if-read, label-block-read, try-read, term-read, terminal-read, scope-read, stmt-read, stmts-read, block}
+use Rattle.hir.specs.Sizes.{opt-val-size, stmt-size, term-size, cases-size, opt-block-size, block-size}
+use Rattle.hir.specs.Tree.{noVal, someVal, instruction, scope, pruned, break, continue, return, throw, switch, noBlock, someBlock, Block}
+use Rattle.format.specs.Parse.{Cursor, Read, onto, give, case, top-value, instruction-read, opt-value, targets, label-read, jump-read, leave-read, opt-block, cases-read, switch-read, do-while-read, while-read, for-read, for-of-read, for-in-read, if-read, label-block-read, try-read, term-read, terminal-read, scope-read, stmt-read, stmts-read, block}
 use Rattle.format.proofs.Took.{Took, Passed, Comes, after, weaker, given, refused, both, then, ends, on, nothing, stays, word-passed, case-comes, order-passed, flag-passed, option-passed}
 use Rattle.format.proofs.Begun.{statement-began, case-began}
 use Rattle.format.proofs.TookValues.{place-took, opt-place-took, instr-took, top-value-took}

@@ -1,17 +1,16 @@
 -- What the reading of the tables takes: their words and their slots. Assumes nothing.
 use mathlib.Core.Path.{_≡_, refl, ap, _∙_}
 use mathlib.Core.List.{List, [], _∷_}
-use Prim.Native.Nat.{ℕ, _+_}
+use Prim.Native.Nat.{ℕ}
 use native.Mathlib.Omega.{arith}
 use lib.ListN.{length}
 use Rattle.hir.specs.declared.environment.Identifier.{Identifier}
-use Rattle.hir.specs.declared.environment.IdentifierName.the-variants.{Named, Promoted}
 use Rattle.hir.specs.declared.environment.ReactiveScopeDeclaration.{ReactiveScopeDeclaration}
 use Rattle.hir.specs.declared.used.Used.{Used}
 use Rattle.hir.specs.Encode.{word as one-word, name-words, identifier-words, early-words, declaration-words, scope-words, counters-words, items-words}
-use Rattle.hir.specs.Sizes.{none, plus, declarations-in}
+use Rattle.hir.specs.Sizes.{plus, declarations-in}
 use Rattle.hir.specs.Tree.{ScopeInfo}
-use Rattle.format.specs.Parse.{Cursor, onto, give, word, case, names, identifier, early-read, declaration, scope-info, every, counters}
+use Rattle.format.specs.Parse.{Cursor, case, names, identifier, early-read, declaration, scope-info, every, counters}
 use Rattle.format.proofs.Took.{Used-is, Took, Passed, Comes, after, weaker, given, both, ends, on, then, sized, word-passed, case-comes, order-passed, option-passed, items-size, listed-took, every-took}
 use Rattle.format.proofs.Begun.{one-identifier, one-scope, one-declaration, identifier-began, scope-began, declaration-began}
 

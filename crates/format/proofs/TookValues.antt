@@ -9,12 +9,11 @@ use lib.ListN.{length}
 use Rattle.std.specs.declared.option.Option.{Option}
 use Rattle.std.specs.declared.option.Option.the-variants.{Some, None}
 use Rattle.hir.specs.declared.place.Place.{Place}
-use Rattle.hir.specs.declared.used.Used.{Used}
 use Rattle.hir.specs.Encode.{option-words, list-words, place-words, op-words, instr-count, val-words, instr-words, instrs-words}
-use Rattle.hir.specs.Numbers.{effect-number, operator-number, flag-number}
-use Rattle.hir.specs.Sizes.{none, plus, one-statement, one-value, some-places, opt-place-size, val-size, instr-size, instrs-size}
-use Rattle.hir.specs.Tree.{Op, Val, operation, logical, conditional, sequence, optional, Instr, instr, Instrs, inil, icons}
-use Rattle.format.specs.Parse.{Cursor, Read, onto, give, below, word, order, case, flag, option, listed, effects, place, payload, op, operators, instr-read, instrs-read, logical-read, conditional-read, sequence-read, optional-read, val-read, value, top-value}
+use Rattle.hir.specs.Numbers.{effect-number, operator-number}
+use Rattle.hir.specs.Sizes.{plus, one-value, some-places, opt-place-size, val-size, instr-size, instrs-size}
+use Rattle.hir.specs.Tree.{Val, operation, sequence}
+use Rattle.format.specs.Parse.{Cursor, Read, onto, give, below, word, case, option, listed, effects, place, op, operators, instr-read, instrs-read, logical-read, conditional-read, sequence-read, optional-read, val-read, value, top-value}
 use Rattle.format.proofs.Took.{Used-is, Took, Passed, Comes, after, weaker, given, refused, both, then, ends, on, nothing, stays, sized, word-passed, case-comes, below-passed, order-passed, flag-passed, opt-size, option-took, items-size, listed-took}
 use Rattle.format.proofs.Begun.{statement-began, value-began, place-began}
 

@@ -1,17 +1,17 @@
 -- What is read is written as it was: words, bytes, and how many of them. Assumes nothing.
-use mathlib.Core.Path.{_≡_, refl, sym, ap, ap₂, subst, _∙_}
-use mathlib.Core.List.{List, [], _∷_, _++_, append-nil}
-use Prim.Native.Nat.{ℕ, suc, _+_, _-_, _≤_}
+use mathlib.Core.Path.{_≡_, sym, ap, _∙_}
+use mathlib.Core.List.{List, _∷_, _++_, append-nil}
+use Prim.Native.Nat.{ℕ, _+_, _-_, _≤_}
 use native.Mathlib.Omega.{arith}
 use lib.ListN.{length, getD, take, drop, take-append-drop, length-drop}
 use lib.Seq.{drop-cons, length-take-le}
 use Rattle.std.proofs.shelf.Lists.{drop-drop, drop-all}
 use Rattle.std.specs.declared.result.Result.the-variants.{Ok}
-use Rattle.hir.specs.Encode.{items-words, counters-words, identifier-words, scope-words, block-words, sections, encode}
+use Rattle.hir.specs.Encode.{sections, encode}
 use Rattle.hir.specs.Tree.{Function}
 use Rattle.format.specs.Parse.{parse}
 use Rattle.format.specs.RoundTrip.{Words-come-back}
-use Rattle.format.proofs.Sections.{Stands, pair-stands, last-stands, Parsed, parse-parsed}
+use Rattle.format.proofs.Sections.{Stands, pair-stands, last-stands, parse-parsed}
 use Rattle.format.proofs.Counts.{counters-cover, identifiers-cover, scopes-cover, body-covers}
 
 -- a part and what follows it

@@ -1,6 +1,6 @@
 -- How deep blocks and values stand in one another. Assumes nothing.
 use Prim.Native.Nat.{ℕ, suc, max}
-use Rattle.hir.specs.Tree.{Val, operation, logical, conditional, sequence, optional, OptVal, noVal, someVal, Instr, instr, Instrs, inil, icons, Stmt, instruction, scope, pruned, terminal, Term, break, continue, return, throw, switch, doWhile, while, for, forOf, forIn, if, label, try, Cases, knil, kcons, OptBlock, noBlock, someBlock, Block, nil, cons}
+use Rattle.hir.specs.Tree.{Val, operation, logical, conditional, sequence, optional, Instr, instr, Instrs, inil, icons, Stmt, instruction, scope, pruned, terminal, Term, break, continue, return, throw, switch, doWhile, while, for, forOf, forIn, if, label, try, Cases, knil, kcons, OptBlock, noBlock, someBlock, Block, nil, cons}
 
 -- a value has depth 1, and a value inside it, also that of an instruction of a sequence, is one deeper
 abbrev mutual

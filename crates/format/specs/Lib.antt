@@ -5,3 +5,4 @@ pub mod RoundTrip
 pub mod Depth
 pub mod Readable
 pub mod Refusals
+pub mod Longest

@@ -5,7 +5,6 @@ use Prim.Native.Nat.{ℕ, _<_, _≤_}
 use lib.ListN.{length}
 use Rattle.std.specs.shelf.Lists.{All}
 use Rattle.std.specs.declared.result.Result.the-variants.{Ok}
-use Rattle.hir.specs.declared.environment.Counters.{Counters}
 use Rattle.hir.specs.Encode.{encode}
 use Rattle.hir.specs.Limits.{Within, limits}
 use Rattle.hir.specs.Sizes.{sizes}

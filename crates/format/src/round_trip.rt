@@ -1,4 +1,5 @@
 // What is promised of reading and writing a function file. The bodies do nothing: the contracts are what counts.
+ghost use Rattle.format.specs.Longest.{Words-are-bounded, Bytes-are-bounded};
 ghost use Rattle.format.specs.Readable.{Words-are-read, Bytes-are-read, Only-readable, Only-held};
 ghost use Rattle.format.specs.Refusals.{First-no-is-told};
 ghost use Rattle.format.specs.RoundTrip.{Words-come-back, Bytes-come-back, Slots-are-counted, Read-is-within};
@@ -62,6 +63,20 @@ pub fn only_what_a_file_holds_is_read() -> u8
 // A refusal tells the first question whose answer is no: the length, the pairs word by word, and only then the sections.
 pub fn a_refusal_tells_the_first_no() -> u8
     ensures { λ _. ⌜ First-no-is-told ⌝ }
+{
+    0
+}
+
+// A file is no longer than the slots of its function allow.
+pub fn a_file_is_as_long_as_its_slots_allow() -> u8
+    ensures { λ _. ⌜ Words-are-bounded ⌝ }
+{
+    0
+}
+
+// So a buffer of 341,040 bytes holds the file of every function within the limits, though such a file may be too long to be read.
+pub fn a_buffer_of_341040_bytes_holds_every_file() -> u8
+    ensures { λ _. ⌜ Bytes-are-bounded ⌝ }
 {
     0
 }
