@@ -16,7 +16,7 @@ use Rattle.run.specs.declared.frame.Exit.{Exit}
 use Rattle.run.specs.declared.frame.Frame.{Frame}
 use Rattle.run.specs.declared.frame.Frame.the-variants as F
 use Rattle.run.specs.Frames.{Means, Stacked, known, weigh, weigh-all, measure}
-use Rattle.run.specs.Tasks.{Task, around, act, resume, weight, weights, wV, wIs, wS, wB, wK, count, wLoop, wTests}
+use Rattle.run.specs.Tasks.{Task, around, act, resume, weight, weights, wV, wIs, wS, wB, wK, count, wLoop, wTests, owing, owed}
 use Rattle.run.specs.Turn.{Leads, Calm, result, state-of}
 
 snoc-same : {X : Type 0} (xs ys : List X) (x y : X) → xs ++ x ∷ [] ≡ ys ++ y ∷ [] → (xs ≡ ys) × (x ≡ y)
@@ -119,21 +119,21 @@ module _ {S : Type 0} (H : Meaning S) (B : ℕ) (rec : ℕ → Option ℕ) (a : 
     pub heavy : weigh-all a (fs ++ f ∷ []) ≡ weight task + weights kont
     pub same : resume H B rec kont (act H B rec (around kont) task (result x (state-of h σ given steps entries recorded))) ≡ w
     pub paid : steps ≤ B
-    pub counted : entries ≤ steps
+    pub counted : entries + (owing task + owed kont) ≤ steps
     pub calm : Calm x recorded
 
   module _ {fs : List Frame} {f : Frame} {x : Exit} {h : S} {σ : List ℕ} {given steps entries : ℕ} {recorded : Bool} where
     pub opened : Leads H B rec a W w (fs ++ f ∷ []) x h σ given steps entries recorded → Opened fs f x h σ given steps entries recorded
-    opened l = go (l .kont) (l .stacked) (l .light) (l .same)
+    opened l = go (l .kont) (l .stacked) (l .light) (l .same) (l .counted)
       where
-        go : (k : List Task) → Stacked a B W steps (fs ++ f ∷ []) k → weights k ≤ W → resume H B rec k (result x (state-of h σ given steps entries recorded)) ≡ w
+        go : (k : List Task) → Stacked a B W steps (fs ++ f ∷ []) k → weights k ≤ W → resume H B rec k (result x (state-of h σ given steps entries recorded)) ≡ w → entries + owed k ≤ steps
             → Opened fs f x h σ given steps entries recorded
-        go [] m light same = absurd (no-end fs m)
+        go [] m light same counted = absurd (no-end fs m)
           where
             no-end : (ys : List Frame) → ys ++ f ∷ [] ≡ [] → ⊥
             no-end [] e = let z : _≡_ {A = ℕ} 0 1 = cc in omega arith
             no-end (y ∷ ys) e = let z : _≡_ {A = ℕ} 0 1 = cc in omega arith
-        go (t ∷ k) m light same =
+        go (t ∷ k) m light same counted =
             let e = snoc-same fs (m .1) f (m .0) (m .2) in
             let means : Means a B W steps (length fs) (weights k) f t =
                 subst (λ (r : List Frame). Means a B W steps (length r) (weights k) f t) (sym (e .0)) (subst (λ (g : Frame). Means a B W steps (length (m .1)) (weights k) g t) (sym (e .1)) (m .3)) in
@@ -146,14 +146,14 @@ module _ {S : Type 0} (H : Meaning S) (B : ℕ) (rec : ℕ → Option ℕ) (a : 
               heavy = weighs-all a B W steps (fs ++ f ∷ []) (t ∷ k) (f, fs, refl, means, subst (λ (r : List Frame). Stacked a B W steps r k) (sym (e .0)) (m .4));
               same = same;
               paid = l .paid;
-              counted = l .counted;
+              counted = counted;
               calm = l .calm;
             }
 
     module _ (o : Opened fs f x h σ given steps entries recorded) (gs : List Frame) (y : Exit) (h′ : S) (σ′ : List ℕ) (given′ entries′ : ℕ) (recorded′ : Bool) (k : List Task) where
       -- the tasks are lighter
       pub closes : Stacked a B W steps gs k → weights k < weight (o .task) + weights (o .kont)
-          → resume H B rec k (result y (state-of h′ σ′ given′ steps entries′ recorded′)) ≡ w → entries′ ≤ steps → Calm y recorded′
+          → resume H B rec k (result y (state-of h′ σ′ given′ steps entries′ recorded′)) ≡ w → entries′ + owed k ≤ steps → Calm y recorded′
           → Leads H B rec a W w gs y h′ σ′ given′ steps entries′ recorded′ × (measure a B W steps gs < measure a B W steps (fs ++ f ∷ []))
       closes m l e c q =
           let v = weighs-all a B W steps gs k m in
@@ -164,7 +164,7 @@ module _ {S : Type 0} (H : Meaning S) (B : ℕ) (rec : ℕ → Option ℕ) (a : 
 
       -- a step is paid
       pub pays : Stacked a B W (suc steps) gs k → weights k ≤ W → steps < B
-          → resume H B rec k (result y (state-of h′ σ′ given′ (suc steps) entries′ recorded′)) ≡ w → entries′ ≤ suc steps → Calm y recorded′
+          → resume H B rec k (result y (state-of h′ σ′ given′ (suc steps) entries′ recorded′)) ≡ w → entries′ + owed k ≤ suc steps → Calm y recorded′
           → Leads H B rec a W w gs y h′ σ′ given′ (steps + 1) entries′ recorded′ × (measure a B W (steps + 1) gs < measure a B W steps (fs ++ f ∷ []))
       pays m l b e c q =
           let v = weighs-all a B W (suc steps) gs k m in

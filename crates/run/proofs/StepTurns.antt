@@ -40,7 +40,7 @@ module _ {S : Type 0} (H : Meaning S) (B : ℕ) (rec : ℕ → Option ℕ) (a : 
   on-instrs-end r d z ld =
       let o = top H B rec a W w fs (F.Instructions r d) n ld in
       let m = o .means in
-      stay H B rec a W w o (instrs inil) (m .1 ∙ ap instrs (instrs-end (a .inner) d r (m .0) (m .2) z)) fs (o .kont) n h σ given entries (o .stacked) (omega arith) refl (o .counted)
+      stay H B rec a W w o (instrs inil) (m .1 ∙ ap instrs (instrs-end (a .inner) d r (m .0) (m .2) z)) fs (o .kont) n h σ given entries (o .stacked) (omega arith) refl (omega arith)
 
   pub on-instrs-spent : (r : Range) (d : ℕ) (i : ReactiveInstruction) → 0 < r .count → nth (a .inner .instructions) (r .start) ≡ Some i → B ≤ steps
       → Leads H B rec a W w (fs ++ F.Instructions r d ∷ []) x h σ given steps entries recorded
@@ -51,7 +51,7 @@ module _ {S : Type 0} (H : Meaning S) (B : ℕ) (rec : ℕ → Option ℕ) (a : 
       let m = o .means in
       let q = instrs-first (a .inner) d r (m .0) (m .2) i c at in
       let t : ltb steps B ≡ false = le-ltb steps B b in
-      goes H B rec a W w o (instrs (icons (instr (i .id) (i .lvalue) (q .0) (i .span)) (q .1))) (m .1 ∙ ap instrs (q .2)) fs (o .kont) E.Spent h σ given entries (o .stacked) (omega arith) (rw t) (o .counted)
+      goes H B rec a W w o (instrs (icons (instr (i .id) (i .lvalue) (q .0) (i .span)) (q .1))) (m .1 ∙ ap instrs (q .2)) fs (o .kont) E.Spent h σ given entries (o .stacked) (omega arith) (rw t) (omega arith)
 
   pub on-instrs-first : (r : Range) (d : ℕ) (i : ReactiveInstruction) → 0 < r .count → nth (a .inner .instructions) (r .start) ≡ Some i → steps < B
       → Leads H B rec a W w (fs ++ F.Instructions r d ∷ []) x h σ given steps entries recorded
@@ -68,7 +68,6 @@ module _ {S : Type 0} (H : Meaning S) (B : ℕ) (rec : ℕ → Option ℕ) (a : 
       let len′ = snoc-length g (F.Assigns (i .lvalue)) in
       let is : o .task ≡ instrs (icons (instr (i .id) (i .lvalue) (q .0) (i .span)) (q .1)) = m .1 ∙ ap instrs (q .2) in
       let light = rw is at (o .light) in
-      let counted = o .counted in
       paying H B rec a W w o (instrs (icons (instr (i .id) (i .lvalue) (q .0) (i .span)) (q .1))) is _ (value (q .0) ∷ assigns (i .lvalue) ∷ instrs (q .1) ∷ o .kont) n h σ given entries
       (F.Value (i .value) d, g ++ F.Assigns (i .lvalue) ∷ [], refl, (q .0, refl, q .3, omega arith),
       (F.Assigns (i .lvalue), g, refl, refl, (F.Instructions (behind r 1) d, fs, refl, (q .1, refl, q .4, omega arith), later a B W steps (suc steps) fs (o .kont) (omega arith) (o .stacked))))
@@ -84,10 +83,10 @@ module _ {S : Type 0} (H : Meaning S) (B : ℕ) (rec : ℕ → Option ℕ) (a : 
   unfolding bind
   on-assigns None σ′ e ld =
       let o = top H B rec a W w fs (F.Assigns None) n ld in
-      stay H B rec a W w o (assigns None) (o .means) fs (o .kont) n h σ′ given entries (o .stacked) (omega arith) (rw e) (o .counted)
+      stay H B rec a W w o (assigns None) (o .means) fs (o .kont) n h σ′ given entries (o .stacked) (omega arith) (rw e) (omega arith)
   on-assigns (Some p) σ′ e ld =
       let o = top H B rec a W w fs (F.Assigns (Some p)) n ld in
-      stay H B rec a W w o (assigns (Some p)) (o .means) fs (o .kont) n h σ′ given entries (o .stacked) (omega arith) (rw e) (o .counted)
+      stay H B rec a W w o (assigns (Some p)) (o .means) fs (o .kont) n h σ′ given entries (o .stacked) (omega arith) (rw e) (omega arith)
 
   -- ---- what tests one
   module _ (p : ℕ) (v : ℕ) (h′ : S) (eh : h′ ≡ H .next h (test-of p given)) where
@@ -98,7 +97,7 @@ module _ {S : Type 0} (H : Meaning S) (B : ℕ) (rec : ℕ → Option ℕ) (a : 
     on-left-threw k d ea ld =
         let o = top H B rec a W w fs (F.AfterLeft p k d) n ld in
         let m = o .means in
-        goes H B rec a W w o (afterLeft p (m .0)) (m .1) fs (o .kont) (E.Threw v) h′ σ given entries (o .stacked) (omega arith) (rw (eh, ← ea)) (o .counted)
+        goes H B rec a W w o (afterLeft p (m .0)) (m .1) fs (o .kont) (E.Threw v) h′ σ given entries (o .stacked) (omega arith) (rw (eh, ← ea)) (omega arith)
 
     pub on-left-yes : (k d : ℕ) → Value v ≡ H .answer h (test-of p given) → eqb v 0 ≡ false
         → Leads H B rec a W w (fs ++ F.AfterLeft p k d ∷ []) x h σ given steps entries recorded
@@ -107,7 +106,7 @@ module _ {S : Type 0} (H : Meaning S) (B : ℕ) (rec : ℕ → Option ℕ) (a : 
     on-left-yes k d ea b ld =
         let o = top H B rec a W w fs (F.AfterLeft p k d) n ld in
         let m = o .means in
-        stay H B rec a W w o (afterLeft p (m .0)) (m .1) _ (value (m .0) ∷ o .kont) n h′ σ v entries (F.Value k d, fs, refl, (m .0, refl, m .2, m .3), o .stacked) (omega arith) (rw (eh, ← ea, b)) (o .counted)
+        stay H B rec a W w o (afterLeft p (m .0)) (m .1) _ (value (m .0) ∷ o .kont) n h′ σ v entries (F.Value k d, fs, refl, (m .0, refl, m .2, m .3), o .stacked) (omega arith) (rw (eh, ← ea, b)) (omega arith)
 
     pub on-left-no : (k d : ℕ) → Value v ≡ H .answer h (test-of p given) → eqb v 0 ≡ true
         → Leads H B rec a W w (fs ++ F.AfterLeft p k d ∷ []) x h σ given steps entries recorded
@@ -116,7 +115,7 @@ module _ {S : Type 0} (H : Meaning S) (B : ℕ) (rec : ℕ → Option ℕ) (a : 
     on-left-no k d ea b ld =
         let o = top H B rec a W w fs (F.AfterLeft p k d) n ld in
         let m = o .means in
-        stay H B rec a W w o (afterLeft p (m .0)) (m .1) fs (o .kont) n h′ σ given entries (o .stacked) (omega arith) (rw (eh, ← ea, b)) (o .counted)
+        stay H B rec a W w o (afterLeft p (m .0)) (m .1) fs (o .kont) n h′ σ given entries (o .stacked) (omega arith) (rw (eh, ← ea, b)) (omega arith)
 
   module _ (v : ℕ) (h′ : S) (eh : h′ ≡ H .next h (test-of 0 given)) where
     pub on-test-threw : (k l d : ℕ) → Thrown v ≡ H .answer h (test-of 0 given)
@@ -126,7 +125,7 @@ module _ {S : Type 0} (H : Meaning S) (B : ℕ) (rec : ℕ → Option ℕ) (a : 
     on-test-threw k l d ea ld =
         let o = top H B rec a W w fs (F.AfterTest k l d) n ld in
         let m = o .means in
-        goes H B rec a W w o (afterTest (m .0) (m .1)) (m .2) fs (o .kont) (E.Threw v) h′ σ given entries (o .stacked) (omega arith) (rw (eh, ← ea)) (o .counted)
+        goes H B rec a W w o (afterTest (m .0) (m .1)) (m .2) fs (o .kont) (E.Threw v) h′ σ given entries (o .stacked) (omega arith) (rw (eh, ← ea)) (omega arith)
 
     pub on-test-yes : (k l d : ℕ) → Value v ≡ H .answer h (test-of 0 given) → eqb v 0 ≡ false
         → Leads H B rec a W w (fs ++ F.AfterTest k l d ∷ []) x h σ given steps entries recorded
@@ -135,7 +134,7 @@ module _ {S : Type 0} (H : Meaning S) (B : ℕ) (rec : ℕ → Option ℕ) (a : 
     on-test-yes k l d ea b ld =
         let o = top H B rec a W w fs (F.AfterTest k l d) n ld in
         let m = o .means in
-        stay H B rec a W w o (afterTest (m .0) (m .1)) (m .2) _ (value (m .0) ∷ o .kont) n h′ σ v entries (F.Value k d, fs, refl, (m .0, refl, m .3, m .5), o .stacked) (omega arith) (rw (eh, ← ea, b)) (o .counted)
+        stay H B rec a W w o (afterTest (m .0) (m .1)) (m .2) _ (value (m .0) ∷ o .kont) n h′ σ v entries (F.Value k d, fs, refl, (m .0, refl, m .3, m .5), o .stacked) (omega arith) (rw (eh, ← ea, b)) (omega arith)
 
     pub on-test-no : (k l d : ℕ) → Value v ≡ H .answer h (test-of 0 given) → eqb v 0 ≡ true
         → Leads H B rec a W w (fs ++ F.AfterTest k l d ∷ []) x h σ given steps entries recorded
@@ -144,4 +143,4 @@ module _ {S : Type 0} (H : Meaning S) (B : ℕ) (rec : ℕ → Option ℕ) (a : 
     on-test-no k l d ea b ld =
         let o = top H B rec a W w fs (F.AfterTest k l d) n ld in
         let m = o .means in
-        stay H B rec a W w o (afterTest (m .0) (m .1)) (m .2) _ (value (m .1) ∷ o .kont) n h′ σ v entries (F.Value l d, fs, refl, (m .1, refl, m .4, m .5), o .stacked) (omega arith) (rw (eh, ← ea, b)) (o .counted)
+        stay H B rec a W w o (afterTest (m .0) (m .1)) (m .2) _ (value (m .1) ∷ o .kont) n h′ σ v entries (F.Value l d, fs, refl, (m .1, refl, m .4, m .5), o .stacked) (omega arith) (rw (eh, ← ea, b)) (omega arith)

@@ -15,7 +15,7 @@ use Rattle.run.specs.declared.frame.Exit.{Exit}
 use Rattle.run.specs.declared.frame.Exit.the-variants as E
 use Rattle.run.specs.declared.frame.Frame.{Frame}
 use Rattle.run.specs.Frames.{Means, Stacked, measure}
-use Rattle.run.specs.Tasks.{Task, around, act, resume, weight, weights}
+use Rattle.run.specs.Tasks.{Task, around, act, resume, weight, weights, owing, owed}
 use Rattle.run.specs.Turn.{Leads, Calm, result, state-of}
 use Rattle.run.proofs.Stack.{Opened, opened, closes, pays}
 
@@ -50,27 +50,30 @@ module _ {S : Type 0} (H : Meaning S) (B : ℕ) (rec : ℕ → Option ℕ) (a : 
     -- it goes on normally
     pub stay : {x : Exit} → x ≡ E.Normal → (h′ : S) (σ′ : List ℕ) (given′ entries′ : ℕ) → Stacked a B W steps gs k → weights k < weight t + weights (o .kont)
         → resume H B rec k (done normal (state-of h′ σ′ given′ steps entries′ recorded)) ≡ resume H B rec (o .kont) (act H B rec (around (o .kont)) t (done normal (state-of h σ given steps entries recorded)))
-        → entries′ ≤ steps
+        → entries′ + owed k ≤ entries + (owing t + owed (o .kont))
         → Next fs f steps gs x h′ σ′ given′ steps entries′ recorded
     stay {x} n h′ σ′ given′ entries′ m lt e c =
         let lt′ : weights k < weight (o .task) + weights (o .kont) = rw is lt in
+        let paid : entries + (owing t + owed (o .kont)) ≤ steps = rw is at (o .counted) in
         subst (λ (y : Exit). Next fs f steps gs y h′ σ′ given′ steps entries′ recorded) (sym n)
-        (closes H B rec a W w o gs E.Normal h′ σ′ given′ entries′ recorded k m lt′ (e ∙ whole) c (o .calm))
+        (closes H B rec a W w o gs E.Normal h′ σ′ given′ entries′ recorded k m lt′ (e ∙ whole) (omega arith) (o .calm))
 
     -- it ends otherwise
     pub goes : (y : Exit) (h′ : S) (σ′ : List ℕ) (given′ entries′ : ℕ) → Stacked a B W steps gs k → weights k < weight t + weights (o .kont)
         → resume H B rec k (result y (state-of h′ σ′ given′ steps entries′ recorded)) ≡ resume H B rec (o .kont) (act H B rec (around (o .kont)) t (done normal (state-of h σ given steps entries recorded)))
-        → entries′ ≤ steps
+        → entries′ + owed k ≤ entries + (owing t + owed (o .kont))
         → Next fs f steps gs y h′ σ′ given′ steps entries′ recorded
     goes y h′ σ′ given′ entries′ m lt e c =
         let lt′ : weights k < weight (o .task) + weights (o .kont) = rw is lt in
-        closes H B rec a W w o gs y h′ σ′ given′ entries′ recorded k m lt′ (e ∙ whole) c (calm-false y recorded (o .calm))
+        let paid : entries + (owing t + owed (o .kont)) ≤ steps = rw is at (o .counted) in
+        closes H B rec a W w o gs y h′ σ′ given′ entries′ recorded k m lt′ (e ∙ whole) (omega arith) (calm-false y recorded (o .calm))
 
     -- a step is paid
     pub paying : {x : Exit} → x ≡ E.Normal → (h′ : S) (σ′ : List ℕ) (given′ entries′ : ℕ) → Stacked a B W (suc steps) gs k → weights k ≤ W → steps < B
         → resume H B rec k (done normal (state-of h′ σ′ given′ (suc steps) entries′ recorded)) ≡ resume H B rec (o .kont) (act H B rec (around (o .kont)) t (done normal (state-of h σ given steps entries recorded)))
-        → entries′ ≤ suc steps
+        → entries′ + owed k ≤ suc (entries + (owing t + owed (o .kont)))
         → Next fs f steps gs x h′ σ′ given′ (steps + 1) entries′ recorded
     paying {x} n h′ σ′ given′ entries′ m le b e c =
+        let paid : entries + (owing t + owed (o .kont)) ≤ steps = rw is at (o .counted) in
         subst (λ (y : Exit). Next fs f steps gs y h′ σ′ given′ (steps + 1) entries′ recorded) (sym n)
-        (pays H B rec a W w o gs E.Normal h′ σ′ given′ entries′ recorded k m le b (e ∙ whole) c (o .calm))
+        (pays H B rec a W w o gs E.Normal h′ σ′ given′ entries′ recorded k m le b (e ∙ whole) (omega arith) (o .calm))

@@ -53,7 +53,7 @@ module _ {S : Type 0} (H : Meaning S) (B : ℕ) (rec : ℕ → Option ℕ) (a : 
       (F.Value l (d - 1), fs ++ F.AfterLeft p r (d - 1) ∷ [], refl, (q .0, refl, q .3, omega arith), (F.AfterLeft p r (d - 1), fs, refl, (q .1, refl, q .4, omega arith), o .stacked))
       (omega arith)
       (rw pe)
-      (o .counted)
+      (omega arith)
 
   pub on-conditional : (k d t l r : ℕ) → nth (a .inner .values) k ≡ Some (V.ConditionalExpression t l r)
       → Leads H B rec a W w (fs ++ F.Value k d ∷ []) x h σ given steps entries recorded
@@ -70,7 +70,7 @@ module _ {S : Type 0} (H : Meaning S) (B : ℕ) (rec : ℕ → Option ℕ) (a : 
       (F.Value t (d - 1), fs ++ F.AfterTest l r (d - 1) ∷ [], refl, (q .0, refl, q .4, omega arith), (F.AfterTest l r (d - 1), fs, refl, (q .1, q .2, refl, q .5, q .6, omega arith), o .stacked))
       (omega arith)
       refl
-      (o .counted)
+      (omega arith)
 
   pub on-sequence : (k d : ℕ) (r : Range) (i v : ℕ) → nth (a .inner .values) k ≡ Some (V.SequenceExpression r i v)
       → Leads H B rec a W w (fs ++ F.Value k d ∷ []) x h σ given steps entries recorded
@@ -87,7 +87,7 @@ module _ {S : Type 0} (H : Meaning S) (B : ℕ) (rec : ℕ → Option ℕ) (a : 
       (F.Instructions r (d - 1), fs ++ F.Value v (d - 1) ∷ [], refl, (q .0, refl, q .3, omega arith), (F.Value v (d - 1), fs, refl, (q .1, refl, q .4, omega arith), o .stacked))
       (omega arith)
       refl
-      (o .counted)
+      (omega arith)
 
   pub on-optional : (k d v : ℕ) (b : Bool) → nth (a .inner .values) k ≡ Some (V.OptionalExpression v b)
       → Leads H B rec a W w (fs ++ F.Value k d ∷ []) x h σ given steps entries recorded
@@ -103,7 +103,7 @@ module _ {S : Type 0} (H : Meaning S) (B : ℕ) (rec : ℕ → Option ℕ) (a : 
       (F.Value v (d - 1), fs, refl, (q .0, refl, q .2, omega arith), o .stacked)
       (omega arith)
       refl
-      (o .counted)
+      (omega arith)
 
   -- what an instruction's value does is told by its definition
   pub on-operation : (k d : ℕ) (i : InstructionValue) (y : Exit) (h′ : S) (σ′ : List ℕ) (given′ : ℕ) → nth (a .inner .values) k ≡ Some (V.Instruction i)
@@ -117,4 +117,4 @@ module _ {S : Type 0} (H : Meaning S) (B : ℕ) (rec : ℕ → Option ℕ) (a : 
       let q = operation-parts (a .inner) d k (m .0) (m .2) i at in
       goes H B rec a W w o (value (operation (q .0))) (m .1 ∙ ap value (q .1)) fs (o .kont) y h′ σ′ given′ entries (o .stacked) (omega arith)
       (ap (resume H B rec (o .kont)) (e (q .0) (q .2)))
-      (o .counted)
+      (omega arith)

@@ -213,3 +213,28 @@ weight (catches p c) = suc (wB c)
 abbrev pub weights : List Task → ℕ
 weights [] = 0
 weights (t ∷ k) = weight t + weights k
+
+-- ---- how many steps are paid for what has yet to begin
+abbrev pub owing : Task → ℕ
+owing (block b) = 0
+owing (begun x) = 1
+owing (value v) = 0
+owing (assigns l) = 0
+owing (instrs is) = 0
+owing (afterLeft p b) = 0
+owing (afterTest x y) = 0
+owing (leaves x) = 0
+owing (endsLabel m) = 0
+owing (endsLoop m) = 0
+owing (endsSwitch m) = 0
+owing (endsRound m) = 0
+owing (starts l m) = 0
+owing (rounds l m n) = 0
+owing (tests l m) = 0
+owing (selects v cs n e all m) = 0
+owing (cases cs) = 0
+owing (catches p c) = 0
+
+abbrev pub owed : List Task → ℕ
+owed [] = 0
+owed (t ∷ k) = owing t + owed k

@@ -21,7 +21,7 @@ use Rattle.run.specs.declared.frame.Exit.the-variants as E
 use Rattle.run.specs.declared.frame.Frame.{Frame}
 use Rattle.run.specs.declared.memory.Memory.{Memory}
 use Rattle.run.specs.Frames.{Stacked, measure}
-use Rattle.run.specs.Tasks.{Task, weights, wB, resume}
+use Rattle.run.specs.Tasks.{Task, weights, wB, resume, owed}
 
 abbrev pub host-of : {S : Type 0} (answer : S → Asked → Reply) (next : S → Asked → S) → Keeps answer next → Meaning S
 host-of answer next keeps = record { answer = answer; next = next; keeps = keeps }
@@ -54,7 +54,7 @@ pub record Leads {S : Type 0} (H : Meaning S) (B : ℕ) (rec : ℕ → Option �
   pub light : weights kont ≤ W
   pub same : resume H B rec kont (result x (state-of h σ given steps entries recorded)) ≡ w
   pub paid : steps ≤ B
-  pub counted : entries ≤ steps
+  pub counted : entries + owed kont ≤ steps
   pub calm : Calm x recorded
 
 -- the whole run of the tables weighs
