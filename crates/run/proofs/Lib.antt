@@ -4,3 +4,4 @@ pub mod Stack
 pub mod Turning
 pub mod ValueTurns
 pub mod StepTurns
+pub mod Statements
