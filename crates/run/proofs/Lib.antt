@@ -5,3 +5,4 @@ pub mod Turning
 pub mod ValueTurns
 pub mod StepTurns
 pub mod Statements
+pub mod BlockTurns
