@@ -6,3 +6,4 @@ pub mod ValueTurns
 pub mod StepTurns
 pub mod Statements
 pub mod BlockTurns
+pub mod LoopTurns
