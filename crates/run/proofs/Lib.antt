@@ -7,3 +7,4 @@ pub mod StepTurns
 pub mod Statements
 pub mod BlockTurns
 pub mod LoopTurns
+pub mod EndTurns

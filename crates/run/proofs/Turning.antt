@@ -22,7 +22,7 @@ use Rattle.run.proofs.Stack.{Opened, opened, closes, pays}
 pub snoc-length : {X : Type 0} (xs : List X) (x : X) → length (xs ++ x ∷ []) ≡ suc (length xs)
 snoc-length xs x = length-append xs (x ∷ []) ∙ add-one (length xs)
 
-calm-false : (y : Exit) (r : Bool) → r ≡ false → Calm y r
+pub calm-false : (y : Exit) (r : Bool) → r ≡ false → Calm y r
 calm-false E.Normal r e = e
 calm-false (E.Broke l) r e = e
 calm-false (E.Continued l) r e = e

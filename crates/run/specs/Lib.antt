@@ -1,3 +1,4 @@
 pub mod Tasks
 pub mod Frames
+pub mod Exits
 pub mod Turn

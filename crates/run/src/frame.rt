@@ -118,3 +118,12 @@ pub enum Frame {
         depth: u32,
     },
 }
+
+// What a jump looks for around it.
+#[derive(Clone, Copy)]
+pub enum Target {
+    Break,
+    BreakTo(u32),
+    Continue,
+    ContinueTo(u32),
+}

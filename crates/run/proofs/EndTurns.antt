@@ -1,0 +1,137 @@
+-- The turns of what ends a statement, and of what a way that ends otherwise passes over.
+-- Only throws are caught; a spent run passes over everything.
+use mathlib.Core.Path.{_≡_, refl, sym, ap, _∙_, subst}
+use mathlib.Core.Bool.{Bool, true, false}
+use mathlib.Core.List.{List, [], _∷_, _++_}
+use Prim.Native.Nat.{ℕ, zero, suc, _+_, _-_, _*_, _≤_, _<_}
+use native.Mathlib.Omega.{arith}
+use lib.ListN.{length}
+use Rattle.std.specs.declared.option.Option.{Option}
+use Rattle.std.specs.declared.option.Option.the-variants.{Some, None}
+use Rattle.hir.specs.declared.place.Place.{Place}
+use Rattle.hir.specs.declared.range.Range.{Range}
+use Rattle.hir.specs.Decode.{Slots}
+use Rattle.semantics.specs.Machine.{Meaning, State, Out, normal, broke, continued, returned, threw, Result, done, bind, handle, mapOut, gave, assign}
+use Rattle.semantics.specs.Targets.{Around, aimB}
+use Rattle.semantics.specs.Exec.{endLoop, endRound, endLabel}
+use Rattle.run.specs.declared.frame.Exit.{Exit}
+use Rattle.run.specs.declared.frame.Exit.the-variants as E
+use Rattle.run.specs.declared.frame.Frame.{Frame}
+use Rattle.run.specs.declared.frame.Frame.the-variants as F
+use Rattle.run.specs.Exits.{exit-from, onto, takes}
+use Rattle.run.specs.Frames.{Means}
+use Rattle.run.specs.Tasks.{Task, block, endsLabel, endsLoop, endsSwitch, endsRound, catches, around, act, resume, runs, wB, weight, weights, owing, owed}
+use Rattle.run.specs.Turn.{Leads, Calm, result, state-of, kept}
+use Rattle.run.proofs.Stack.{Opened, opened, closes}
+use Rattle.run.proofs.Turning.{Next, calm-false}
+
+result-from : {S : Type 0} (o : Out) (s : State S) → result (exit-from o) s ≡ done o s
+result-from normal s = refl
+result-from (broke l) s = refl
+result-from (continued l) s = refl
+result-from (returned v) s = refl
+result-from (threw v) s = refl
+
+result-onto : {S : Type 0} (g : Out → Out) (x : Exit) (s : State S) → result (onto g x) s ≡ mapOut g (result x s)
+unfolding mapOut
+result-onto g E.Normal s = result-from (g normal) s
+result-onto g (E.Broke l) s = result-from (g (broke l)) s
+result-onto g (E.Continued l) s = result-from (g (continued l)) s
+result-onto g (E.Returned v) s = result-from (g (returned v)) s
+result-onto g (E.Threw v) s = result-from (g (threw v)) s
+result-onto g E.Spent s = refl
+
+calm-onto : (g : Out → Out) → ((v : ℕ) → g (returned v) ≡ returned v) → (x : Exit) (r : Bool) → Calm x r → Calm (onto g x) r
+calm-onto g h E.Normal r c = calm-false _ r c
+calm-onto g h (E.Broke l) r c = calm-false _ r c
+calm-onto g h (E.Continued l) r c = calm-false _ r c
+calm-onto g h (E.Returned v) r c = subst (λ (o : Out). Calm (exit-from o) r) (sym (h v)) tt
+calm-onto g h (E.Threw v) r c = calm-false _ r c
+calm-onto g h E.Spent r c = tt
+
+bind-passes : {S : Type 0} (x : Exit) (s : State S) (k : State S → Result S) → (x ≡ E.Normal → ⊥) → bind (result x s) k ≡ result x s
+unfolding bind
+bind-passes E.Normal s k n = absurd (n refl)
+bind-passes (E.Broke l) s k n = refl
+bind-passes (E.Continued l) s k n = refl
+bind-passes (E.Returned v) s k n = refl
+bind-passes (E.Threw v) s k n = refl
+bind-passes E.Spent s k n = refl
+
+handle-passes : {S : Type 0} (x : Exit) (s : State S) (k : ℕ → State S → Result S) → ((v : ℕ) → x ≡ E.Threw v → ⊥) → handle (result x s) k ≡ result x s
+unfolding handle
+handle-passes E.Normal s k n = refl
+handle-passes (E.Broke l) s k n = refl
+handle-passes (E.Continued l) s k n = refl
+handle-passes (E.Returned v) s k n = refl
+handle-passes (E.Threw v) s k n = absurd (n v refl)
+handle-passes E.Spent s k n = refl
+
+module _ {S : Type 0} (H : Meaning S) (B : ℕ) (rec : ℕ → Option ℕ) (a : Slots) (W : ℕ) (w : Result S) (fs : List Frame) {x : Exit}
+    {h : S} {σ : List ℕ} {given steps entries : ℕ} {recorded : Bool} where
+
+  ends : (f : Frame) (t : Task) (g : Out → Out) → ((v : ℕ) → g (returned v) ≡ returned v) → (o : Opened H B rec a W w fs f x h σ given steps entries recorded) → o .task ≡ t
+      → ((A : Around) (r : Result S) → act H B rec A t r ≡ mapOut g r) → weight t ≡ 1 → owing t ≡ 0
+      → Next H B rec a W w fs f steps fs (onto g x) h σ given steps entries recorded
+  ends f t g gr o is e w1 o0 =
+      let s = state-of h σ given steps entries recorded in
+      let same = subst (λ (u : Task). resume H B rec (o .kont) (act H B rec (around (o .kont)) u (result x s)) ≡ w) is (o .same) in
+      let c = rw is at (o .counted) in
+      let lt : weights (o .kont) < weight (o .task) + weights (o .kont) = rw (is, w1) (omega arith) in
+      closes H B rec a W w o fs (onto g x) h σ given entries recorded (o .kont) (o .stacked) lt
+      (ap (resume H B rec (o .kont)) (result-onto g x s ∙ sym (e (around (o .kont)) (result x s))) ∙ same)
+      (omega arith)
+      (calm-onto g gr x recorded (o .calm))
+
+  pub on-ends-label : (m : Option ℕ) → Leads H B rec a W w (fs ++ F.EndsLabel m ∷ []) x h σ given steps entries recorded
+      → Next H B rec a W w fs (F.EndsLabel m) steps fs (onto (endLabel m) x) h σ given steps entries recorded
+  on-ends-label m ld = let o = opened H B rec a W w {fs = fs} {f = F.EndsLabel m} ld in ends (F.EndsLabel m) (endsLabel m) (endLabel m) (λ v. refl) o (o .means) (λ A r. refl) refl refl
+
+  pub on-ends-loop : (m : Option ℕ) → Leads H B rec a W w (fs ++ F.EndsLoop m ∷ []) x h σ given steps entries recorded
+      → Next H B rec a W w fs (F.EndsLoop m) steps fs (onto (endLoop m) x) h σ given steps entries recorded
+  on-ends-loop m ld = let o = opened H B rec a W w {fs = fs} {f = F.EndsLoop m} ld in ends (F.EndsLoop m) (endsLoop m) (endLoop m) (λ v. refl) o (o .means) (λ A r. refl) refl refl
+
+  pub on-ends-switch : (m : Option ℕ) → Leads H B rec a W w (fs ++ F.EndsSwitch m ∷ []) x h σ given steps entries recorded
+      → Next H B rec a W w fs (F.EndsSwitch m) steps fs (onto (endLoop m) x) h σ given steps entries recorded
+  on-ends-switch m ld = let o = opened H B rec a W w {fs = fs} {f = F.EndsSwitch m} ld in ends (F.EndsSwitch m) (endsSwitch m) (endLoop m) (λ v. refl) o (o .means) (λ A r. refl) refl refl
+
+  pub on-ends-round : (m : Option ℕ) → Leads H B rec a W w (fs ++ F.EndsRound m ∷ []) x h σ given steps entries recorded
+      → Next H B rec a W w fs (F.EndsRound m) steps fs (onto (endRound m) x) h σ given steps entries recorded
+  on-ends-round m ld = let o = opened H B rec a W w {fs = fs} {f = F.EndsRound m} ld in ends (F.EndsRound m) (endsRound m) (endRound m) (λ v. refl) o (o .means) (λ A r. refl) refl refl
+
+  -- ---- a handler
+  pub on-catches-threw : (p : Option Place) (r : Range) (d v : ℕ) (σ′ : List ℕ) → x ≡ E.Threw v → σ′ ≡ kept p σ v
+      → Leads H B rec a W w (fs ++ F.Catches p r d ∷ []) x h σ given steps entries recorded
+      → Next H B rec a W w fs (F.Catches p r d) steps (fs ++ F.Block r d ∷ []) E.Normal h σ′ v steps entries recorded
+  unfolding handle bind
+  on-catches-threw p r d v σ′ ex es ld =
+      let o = opened H B rec a W w {fs = fs} {f = F.Catches p r d} (subst (λ (y : Exit). Leads H B rec a W w (fs ++ F.Catches p r d ∷ []) y h σ given steps entries recorded) ex ld) in
+      let m = o .means in
+      let c = rw (m .1) at (o .counted) in
+      let lt : wB (m .0) + weights (o .kont) < weight (o .task) + weights (o .kont) = rw (m .1) (omega arith) in
+      let same = subst (λ (u : Task). resume H B rec (o .kont) (act H B rec (around (o .kont)) u (done (threw v) (state-of h σ given steps entries recorded))) ≡ w) (m .1) (o .same) in
+      closes H B rec a W w o (fs ++ F.Block r d ∷ []) E.Normal h σ′ v entries recorded (block (m .0) ∷ o .kont) (F.Block r d, fs, refl, (m .0, refl, m .2, m .3), o .stacked) lt
+      (ap (λ (s : State S). resume H B rec (o .kont) (runs H B rec (aimB (m .0) (around (o .kont))) s)) (assigned p es) ∙ same)
+      (omega arith)
+      (o .calm)
+    where
+      assigned : (p : Option Place) → σ′ ≡ kept p σ v → state-of h σ′ v steps entries recorded ≡ assign p (gave (state-of h σ given steps entries recorded) v)
+      assigned None e = rw e
+      assigned (Some q) e = rw e
+
+  -- ---- what passes over a frame
+  passed : (f : Frame) (o : Opened H B rec a W w fs f x h σ given steps entries recorded) → 0 < weight (o .task)
+      → act H B rec (around (o .kont)) (o .task) (result x (state-of h σ given steps entries recorded)) ≡ result x (state-of h σ given steps entries recorded)
+      → Next H B rec a W w fs f steps fs x h σ given steps entries recorded
+  passed f o lt e =
+      let c = o .counted in
+      closes H B rec a W w o fs x h σ given entries recorded (o .kont) (o .stacked) (omega arith) (ap (resume H B rec (o .kont)) (sym e) ∙ o .same) (omega arith) (o .calm)
+
+  pub on-catches-passed : (p : Option Place) (r : Range) (d : ℕ) → ((v : ℕ) → x ≡ E.Threw v → ⊥)
+      → Leads H B rec a W w (fs ++ F.Catches p r d ∷ []) x h σ given steps entries recorded
+      → Next H B rec a W w fs (F.Catches p r d) steps fs x h σ given steps entries recorded
+  on-catches-passed p r d n ld =
+      let o = opened H B rec a W w {fs = fs} {f = F.Catches p r d} ld in
+      let m = o .means in
+      passed (F.Catches p r d) o (rw (m .1) (omega arith))
+      (ap (λ (t : Task). act H B rec (around (o .kont)) t (result x (state-of h σ given steps entries recorded))) (m .1) ∙ handle-passes x _ _ n)
