@@ -6,11 +6,13 @@ use mathlib.Core.List.{List, [], _∷_, _++_}
 use Prim.Native.Nat.{ℕ, zero, suc, _+_, _-_, _*_, _≤_, _<_}
 use native.Mathlib.Omega.{arith}
 use lib.ListN.{length}
+use Rattle.std.proofs.shelf.Tests.{true≢false}
 use Rattle.std.specs.declared.option.Option.{Option}
 use Rattle.std.specs.declared.option.Option.the-variants.{Some, None}
 use Rattle.hir.specs.declared.place.Place.{Place}
 use Rattle.hir.specs.declared.range.Range.{Range}
 use Rattle.hir.specs.Decode.{Slots}
+use Rattle.hir.specs.Tree.{Val, operation, logical, conditional, sequence, optional, Instrs, inil, icons, Block, nil, cons, Cases, knil, kcons}
 use Rattle.semantics.specs.Machine.{Meaning, State, Out, normal, broke, continued, returned, threw, Result, done, bind, handle, mapOut, gave, assign}
 use Rattle.semantics.specs.Targets.{Around, aimB}
 use Rattle.semantics.specs.Exec.{endLoop, endRound, endLabel}
@@ -20,7 +22,7 @@ use Rattle.run.specs.declared.frame.Frame.{Frame}
 use Rattle.run.specs.declared.frame.Frame.the-variants as F
 use Rattle.run.specs.Exits.{exit-from, onto, takes}
 use Rattle.run.specs.Frames.{Means}
-use Rattle.run.specs.Tasks.{Task, block, endsLabel, endsLoop, endsSwitch, endsRound, catches, around, act, resume, runs, wB, weight, weights, owing, owed}
+use Rattle.run.specs.Tasks.{Loop, testFirst, blockFirst, updating, Task, block, begun, value, assigns, instrs, afterLeft, afterTest, leaves, endsLabel, endsLoop, endsSwitch, endsRound, starts, rounds, tests, selects, cases, catches, around, act, resume, runs, wV, wIs, wB, wK, wTests, weight, weights, owing, owed}
 use Rattle.run.specs.Turn.{Leads, Calm, result, state-of, kept}
 use Rattle.run.proofs.Stack.{Opened, opened, closes}
 use Rattle.run.proofs.Turning.{Next, calm-false}
@@ -66,6 +68,72 @@ handle-passes (E.Continued l) s k n = refl
 handle-passes (E.Returned v) s k n = refl
 handle-passes (E.Threw v) s k n = absurd (n v refl)
 handle-passes E.Spent s k n = refl
+
+-- ---- every task has a weight
+wV-positive : (v : Val) → 0 < wV v
+wV-positive (operation o) = omega arith
+wV-positive (logical o l r) = omega arith
+wV-positive (conditional c l r) = omega arith
+wV-positive (sequence is i v) = omega arith
+wV-positive (optional v o) = omega arith
+
+wIs-positive : (is : Instrs) → 0 < wIs is
+wIs-positive inil = omega arith
+wIs-positive (icons i is) = omega arith
+
+wB-positive : (b : Block) → 0 < wB b
+wB-positive nil = omega arith
+wB-positive (cons x b) = omega arith
+
+wK-positive : (cs : Cases) → 0 < wK cs
+wK-positive knil = omega arith
+wK-positive (kcons t b cs) = omega arith
+
+wTests-positive : (l : Loop) → 0 < wTests l
+wTests-positive (testFirst v b) = omega arith
+wTests-positive (blockFirst b v) = omega arith
+wTests-positive (updating v u b) = omega arith
+
+weight-positive : (t : Task) → 0 < weight t
+weight-positive (block b) = wB-positive b
+weight-positive (begun x) = omega arith
+weight-positive (value v) = wV-positive v
+weight-positive (assigns l) = omega arith
+weight-positive (instrs is) = wIs-positive is
+weight-positive (afterLeft p b) = omega arith
+weight-positive (afterTest v u) = omega arith
+weight-positive (leaves y) = omega arith
+weight-positive (endsLabel m) = omega arith
+weight-positive (endsLoop m) = omega arith
+weight-positive (endsSwitch m) = omega arith
+weight-positive (endsRound m) = omega arith
+weight-positive (starts l m) = omega arith
+weight-positive (rounds l m n) = omega arith
+weight-positive (tests l m) = wTests-positive l
+weight-positive (selects v cs n e all m) = omega arith
+weight-positive (cases cs) = wK-positive cs
+weight-positive (catches p c) = omega arith
+
+module _ {S : Type 0} (H : Meaning S) (B : ℕ) (rec : ℕ → Option ℕ) (a : Slots) (W : ℕ) (x : Exit) where
+  passes : (f : Frame) (t : Task) (A : Around) (z n v : ℕ) → Means a B W z n v f t → takes f ≡ false → (x ≡ E.Normal → ⊥) → (s : State S) → act H B rec A t (result x s) ≡ result x s
+  passes (F.Block r d) t A z n v m e no-normal s = ap (λ (u : Task). act H B rec A u (result x s)) (m .1) ∙ bind-passes x s _ no-normal
+  passes (F.Statement k d) t A z n v m e no-normal s = ap (λ (u : Task). act H B rec A u (result x s)) (m .1) ∙ bind-passes x s _ no-normal
+  passes (F.Value k d) t A z n v m e no-normal s = ap (λ (u : Task). act H B rec A u (result x s)) (m .1) ∙ bind-passes x s _ no-normal
+  passes (F.Assigns p) t A z n v m e no-normal s = ap (λ (u : Task). act H B rec A u (result x s)) m ∙ bind-passes x s _ no-normal
+  passes (F.Instructions r d) t A z n v m e no-normal s = ap (λ (u : Task). act H B rec A u (result x s)) (m .1) ∙ bind-passes x s _ no-normal
+  passes (F.AfterLeft p k d) t A z n v m e no-normal s = ap (λ (u : Task). act H B rec A u (result x s)) (m .1) ∙ bind-passes x s _ no-normal
+  passes (F.AfterTest k l d) t A z n v m e no-normal s = ap (λ (u : Task). act H B rec A u (result x s)) (m .2) ∙ bind-passes x s _ no-normal
+  passes (F.Leaves y) t A z n v m e no-normal s = ap (λ (u : Task). act H B rec A u (result x s)) m ∙ bind-passes x s _ no-normal
+  passes (F.EndsLabel l) t A z n v m e no-normal s = absurd (true≢false e)
+  passes (F.EndsLoop l) t A z n v m e no-normal s = absurd (true≢false e)
+  passes (F.EndsSwitch l) t A z n v m e no-normal s = absurd (true≢false e)
+  passes (F.EndsRound l) t A z n v m e no-normal s = absurd (true≢false e)
+  passes (F.Starts l b d) t A z n v m e no-normal s = ap (λ (u : Task). act H B rec A u (result x s)) (m .1) ∙ bind-passes x s _ no-normal
+  passes (F.Rounds l b d) t A z n v m e no-normal s = ap (λ (u : Task). act H B rec A u (result x s)) (m .2) ∙ bind-passes x s _ no-normal
+  passes (F.Tests l b d) t A z n v m e no-normal s = ap (λ (u : Task). act H B rec A u (result x s)) (m .1) ∙ bind-passes x s _ no-normal
+  passes (F.Selects c b d) t A z n v m e no-normal s = ap (λ (u : Task). act H B rec A u (result x s)) (m .2) ∙ bind-passes x s _ no-normal
+  passes (F.Cases r d) t A z n v m e no-normal s = ap (λ (u : Task). act H B rec A u (result x s)) (m .1) ∙ bind-passes x s _ no-normal
+  passes (F.Catches p r d) t A z n v m e no-normal s = absurd (true≢false e)
 
 module _ {S : Type 0} (H : Meaning S) (B : ℕ) (rec : ℕ → Option ℕ) (a : Slots) (W : ℕ) (w : Result S) (fs : List Frame) {x : Exit}
     {h : S} {σ : List ℕ} {given steps entries : ℕ} {recorded : Bool} where
@@ -135,3 +203,9 @@ module _ {S : Type 0} (H : Meaning S) (B : ℕ) (rec : ℕ → Option ℕ) (a : 
       let m = o .means in
       passed (F.Catches p r d) o (rw (m .1) (omega arith))
       (ap (λ (t : Task). act H B rec (around (o .kont)) t (result x (state-of h σ given steps entries recorded))) (m .1) ∙ handle-passes x _ _ n)
+
+  pub on-passed : (f : Frame) → takes f ≡ false → (x ≡ E.Normal → ⊥) → Leads H B rec a W w (fs ++ f ∷ []) x h σ given steps entries recorded
+      → Next H B rec a W w fs f steps fs x h σ given steps entries recorded
+  on-passed f e no-normal ld =
+      let o = opened H B rec a W w {fs = fs} {f = f} ld in
+      passed f o (weight-positive (o .task)) (passes H B rec a W x f (o .task) (around (o .kont)) steps (length fs) (weights (o .kont)) (o .means) e no-normal (state-of h σ given steps entries recorded))

@@ -8,3 +8,4 @@ pub mod Statements
 pub mod BlockTurns
 pub mod LoopTurns
 pub mod EndTurns
+pub mod Jumps
