@@ -9,3 +9,4 @@ pub mod BlockTurns
 pub mod LoopTurns
 pub mod EndTurns
 pub mod Jumps
+pub mod TerminalTurns
