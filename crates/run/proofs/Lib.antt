@@ -10,3 +10,4 @@ pub mod LoopTurns
 pub mod EndTurns
 pub mod Jumps
 pub mod TerminalTurns
+pub mod SwitchTurns

@@ -85,3 +85,7 @@ kept (Some p) σ v = put σ (p .identifier) v
 -- what a test asks
 abbrev pub test-of : ℕ → ℕ → Asked
 test-of payload v = asked (record { kind = 42; payload = payload; position = 0 }) (v ∷ [])
+
+-- what a switch asks of a case
+abbrev pub case-of : ℕ → ℕ → Asked
+case-of v u = asked (record { kind = 43; payload = 0; position = 0 }) (v ∷ u ∷ [])
