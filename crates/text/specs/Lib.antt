@@ -1,3 +1,4 @@
 pub mod Line
+pub mod Message
 pub mod Read
 pub mod Said

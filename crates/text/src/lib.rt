@@ -2,4 +2,5 @@
 pub mod bytes;
 pub mod character;
 pub mod line;
+pub mod message;
 pub mod read;
