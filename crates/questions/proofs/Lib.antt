@@ -9,3 +9,9 @@ pub mod TermParts
 pub mod BlockRow
 pub mod CaseRow
 pub mod StatementParts
+pub mod Found
+pub mod LinesOf
+pub mod Claims
+pub mod ScopeLists
+pub mod Decided
+pub mod HeldTables

@@ -112,7 +112,7 @@ op-own B a i o m n w r p em en ew er =
     (ap₂ _&&_ (em ∙ row-places B (a .places) (o .written) (i .written .start) (i .written .count) (p .written)) (en ∙ row-places B (a .places) (o .operands) (i .operands .start) (i .operands .count) (p .operands)) ∙ and-true _)
     (ap₂ _&&_ (ew ∙ ap₂ writes-well (sym (p .kind)) (sym wl)) (er ∙ ap₂ reads-well (sym (p .kind)) (sym rl)) ∙ and-true _)
 
-and-assoc : (a b c : Bool) → ((a && b) && c) ≡ (a && (b && c))
+pub and-assoc : (a b c : Bool) → ((a && b) && c) ≡ (a && (b && c))
 and-assoc true b c = refl
 and-assoc false b c = refl
 

@@ -4,3 +4,5 @@ pub mod Own
 pub mod Rows
 pub mod Around
 pub mod Parts
+pub mod Tables
+pub mod Answers

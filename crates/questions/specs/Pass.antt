@@ -60,3 +60,6 @@ pub record Inner {X : Type 0} (o : Option X) (lines : X → List Line) (f r : Fi
 -- the findings are r, and the marks `after`
 pub record Outer {X : Type 0} (o : Option X) (lines : X → List Line) (f : Findings) (seen : List Bool) (r : Findings) (after : List Bool) : Type 0 where
   pub by : (x : X) → o ≡ Some x → passed (lines x) (notes f seen) ≡ notes r after
+
+abbrev pub nothing : Findings
+nothing = record { next = 0; numbers = None; shapes = None; targets = None; scopes = None }

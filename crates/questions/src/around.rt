@@ -154,3 +154,15 @@ impl Around {
         }
     }
 }
+
+const NO_LABELS: Labels = Labels {
+    items: [0; 64],
+    height: 0,
+};
+
+pub const NOWHERE: Around = Around {
+    labels: NO_LABELS,
+    loops: NO_LABELS,
+    looped: false,
+    breaks: false,
+};
