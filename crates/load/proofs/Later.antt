@@ -8,11 +8,14 @@ use lib.Dec.{eqb, ltb}
 use Rattle.std.specs.declared.option.Option.the-variants.{Some, None}
 use Rattle.std.specs.declared.result.Result.{Result}
 use Rattle.std.specs.declared.result.Result.the-variants.{Ok, Err}
+use Rattle.hir.specs.declared.place.Place.{Place}
+use Rattle.hir.specs.declared.terminal.ReactiveTerminalTargetKind.{ReactiveTerminalTargetKind}
 use Rattle.hir.specs.declared.used.Used.{Used}
+use Rattle.hir.specs.Tree.{Term}
 use Rattle.hir.specs.Limits.{Within}
 use Rattle.hir.specs.Options.{nth}
 use Rattle.format.specs.declared.fault.FileFault.{FileFault}
-use Rattle.format.specs.Parse.{Cursor, Read, onto, give, next-of, word, below, order, chosen, case, flag, option, counted, begin-statement, begin-value, begin-place, begin-case, effects, place, payload, operators, targets, label-read}
+use Rattle.format.specs.Parse.{Cursor, Read, onto, give, next-of, word, below, order, chosen, case, flag, option, counted, begin-statement, begin-value, begin-place, begin-case, effects, place, payload, operators, targets, label-read, jump-read, leave-read}
 
 pub err-ok : {X : Type 0} {e : FileFault} {x : X} → Err e ≡ Ok x → ⊥
 err-ok h = let z : _≡_ {A = ℕ} 0 1 = cc in omega arith
@@ -134,6 +137,16 @@ place-begun c q e = within-is (counted-used _ _ c q e)
 pub case-begun : (c : Cursor) → From (case-more (c .used)) (begin-case c)
 case-begun c q e = within-is (counted-used _ _ c q e)
 
+pub statement-later : Later begin-statement
+statement-later c q e =
+    let h = statement-begun c q e in
+    record { statements = omega (arith, h .statements); values = h .values; places = h .places; identifiers = h .identifiers; scopes = h .scopes; declarations = h .declarations; cases = h .cases }
+
+pub begin-case-later : Later begin-case
+begin-case-later c q e =
+    let h = case-begun c q e in
+    record { statements = h .statements; values = h .values; places = h .places; identifiers = h .identifiers; scopes = h .scopes; declarations = h .declarations; cases = omega (arith, h .cases) }
+
 pub place-counted : (c : Cursor) → From (place-more (c .used)) (place c)
 unfolding place
 place-counted c =
@@ -153,3 +166,9 @@ payload-later k c = go (eqb k 4)
 
 pub label-later : Later label-read
 label-later c = onto-later _ (word c) _ (word-later c) (λ l c₁. onto-later _ (flag c₁) _ (flag-later c₁) (λ i. give-later _))
+
+pub jump-later : (make : ℕ → ℕ → ReactiveTerminalTargetKind → Term) → Later (jump-read make)
+jump-later make c = onto-later _ (word c) _ (word-later c) (λ l c₁. onto-later _ (order c₁) _ (order-later c₁) (λ i c₂. onto-later _ (case targets c₂) _ (targets-later c₂) (λ k. give-later _)))
+
+pub leave-later : (make : Place → ℕ → Term) → Later (leave-read make)
+leave-later make c = onto-later _ (place c) _ (place-later c) (λ p c₁. onto-later _ (order c₁) _ (order-later c₁) (λ i. give-later _))

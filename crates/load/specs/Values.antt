@@ -15,7 +15,7 @@ use Rattle.hir.specs.declared.used.Used.{Used}
 use Rattle.hir.specs.declared.value.ReactiveInstruction.{ReactiveInstruction}
 use Rattle.hir.specs.declared.value.ReactiveValue.{ReactiveValue}
 use Rattle.hir.specs.declared.value_arena.ValueArena.{ValueArena}
-use Rattle.hir.specs.Decode.{ValueSlots, instr-of, instrs-of, val-of, value-of, top-value}
+use Rattle.hir.specs.Decode.{ValueSlots, instr-of, instrs-of, val-of, value-of}
 use Rattle.hir.specs.Grows.{ValuesGrow}
 use Rattle.hir.specs.Held.{value-slots}
 use Rattle.hir.specs.Limits.{Within}
@@ -64,10 +64,6 @@ instr-in d s i = instr-of (value-of d s) i
 
 abbrev pub instrs-in : ℕ → ValueSlots → Range → Option Instrs
 instrs-in d s r = bind (part (s .instructions) r) (instrs-of (value-of d s))
-
--- an instruction that is a statement
-abbrev pub top-instr-in : ValueSlots → ReactiveInstruction → Option Instr
-top-instr-in s i = instr-of (top-value s) i
 
 -- so many instructions, put aside one after another
 pub record InstrsIn (d n : ℕ) (a b : ValueArena) (c e : Cursor) : Type 0 where

@@ -2,6 +2,8 @@
 pub mod begins;
 pub mod items;
 pub mod operations;
+pub mod read_block;
+pub mod read_jump;
 pub mod read_top;
 pub mod read_value;
 pub mod reader;
