@@ -2,3 +2,4 @@ pub mod Line
 pub mod Message
 pub mod Read
 pub mod Said
+pub mod Sections

@@ -4,3 +4,4 @@ pub mod character;
 pub mod line;
 pub mod message;
 pub mod read;
+pub mod sections;

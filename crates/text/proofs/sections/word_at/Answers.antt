@@ -1,0 +1,7 @@
+-- Past the end of a list its default stands.
+use mathlib.Core.Path.{sym}
+use Rattle.std.proofs.shelf.Lists.{getD-past}
+use Rattle.text.proofs.sections.word_at.Needs as need
+
+pub returns-else-i-words : need.returns-else-i-words
+returns-else-i-words c = sym (getD-past (c .args .words .now) (c .args .i) 0 (c .if-i-words .left))
