@@ -25,14 +25,14 @@ use hir::arena::Arena;
 use hir::environment::Environment;
 use hir::terminal::ReactiveBlock;
 
-pub mod around;
-pub mod blocks;
-pub mod line;
-pub mod operations;
-pub mod parts;
-pub mod tables;
-pub mod terminals;
-pub mod values;
+mod around;
+mod blocks;
+mod line;
+mod operations;
+mod parts;
+mod tables;
+mod terminals;
+mod values;
 
 // The first statements with a no, of the whole body.
 fn body(arena: &Arena, root: ReactiveBlock, bounds: Bounds, seen: &mut [bool]) -> Findings
