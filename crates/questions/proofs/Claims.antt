@@ -39,8 +39,9 @@ marks-more seen xs (Some x) m h =
     record {
       long = length-set seen x true ∙ m .long;
       at = λ y b. elim (cases-eq y x) [
-          inl e ↦ ap (λ z. getD (set seen x true) z false) e ∙ getD-set-same seen x true false lt ∙ sym (ap (λ t. t || among y xs) (eq-eqb y x e))
-        | inr ne ↦ getD-set-other seen x y true false ne ∙ m .at y b ∙ sym (ap (λ t. t || among y xs) (ne-eqb y x ne)) ];
+        | inl e ↦ ap (λ z. getD (set seen x true) z false) e ∙ getD-set-same seen x true false lt ∙ sym (ap (λ t. t || among y xs) (eq-eqb y x e))
+        | inr ne ↦ getD-set-other seen x y true false ne ∙ m .at y b ∙ sym (ap (λ t. t || among y xs) (ne-eqb y x ne))
+      ];
     }
 
 or-false : (b : Bool) → b ≡ (b || false)
@@ -51,24 +52,24 @@ or-false false = refl
 owns-below : (B : Bounds) (l : Line) → B .scopes ≤ 256 → owned-in B l ≡ true → l .numbers ≡ true → opt-below (l .owns) 256 ≡ true
 owns-below B l h o n = go (l .owns) (ap (λ b. opt-below (l .owns) (B .scopes) || not b) (sym n) ∙ o)
   where
-  go : (x : Option ℕ) → (opt-below x (B .scopes) || false) ≡ true → opt-below x 256 ≡ true
-  go None e = refl
-  go (Some x) e = lt-ltb x 256 (omega (arith, ltb-true x (B .scopes) (or-false (ltb x (B .scopes)) ∙ e)))
+    go : (x : Option ℕ) → (opt-below x (B .scopes) || false) ≡ true → opt-below x 256 ≡ true
+    go None e = refl
+    go (Some x) e = lt-ltb x 256 (omega (arith, ltb-true x (B .scopes) (or-false (ltb x (B .scopes)) ∙ e)))
 
 none-failing : (t : Line → Bool) (n : ℕ) (l : Line) (ls : List Line) → failing t n (l ∷ ls) ≡ [] → (t l ≡ true) × (failing t (suc n) ls ≡ [])
 none-failing t n l ls e = go (t l) refl e
   where
-  go : (b : Bool) → t l ≡ b → cond (t l) (failing t (suc n) ls) (n ∷ failing t (suc n) ls) ≡ [] → (t l ≡ true) × (failing t (suc n) ls ≡ [])
-  go true is h = (is, ap (λ c. cond c (failing t (suc n) ls) (n ∷ failing t (suc n) ls)) (sym is) ∙ h)
-  go false is h = absurd (let z : n ∷ failing t (suc n) ls ≡ [] = ap (λ c. cond c (failing t (suc n) ls) (n ∷ failing t (suc n) ls)) (sym is) ∙ h in let y : _≡_ {A = ℕ} 0 1 = cc in omega arith)
+    go : (b : Bool) → t l ≡ b → cond (t l) (failing t (suc n) ls) (n ∷ failing t (suc n) ls) ≡ [] → (t l ≡ true) × (failing t (suc n) ls ≡ [])
+    go true is h = (is, ap (λ c. cond c (failing t (suc n) ls) (n ∷ failing t (suc n) ls)) (sym is) ∙ h)
+    go false is h = absurd (let z : n ∷ failing t (suc n) ls ≡ [] = ap (λ c. cond c (failing t (suc n) ls) (n ∷ failing t (suc n) ls)) (sym is) ∙ h in let y : _≡_ {A = ℕ} 0 1 = cc in omega arith)
 
 pub first-repeating : (B : Bounds) → B .scopes ≤ 256 → (ls : List Line) (f : Findings) (seen : List Bool) (xs : List ℕ) → f .next + length ls ≤ 4096 → Marks seen xs → every (owned-in B) ls ≡ true → failing (λ l. l .numbers) (f .next) ls ≡ []
     → found-in (passed ls (notes f seen)) .scopes ≡ or-first (f .scopes) (repeating xs (f .next) ls)
 first-repeating B small [] f seen xs h m o n = none-more (f .scopes)
   where
-  none-more : (z : Option ℕ) → z ≡ or-first z []
-  none-more None = refl
-  none-more (Some k) = refl
+    none-more : (z : Option ℕ) → z ≡ or-first z []
+    none-more None = refl
+    none-more (Some k) = refl
 first-repeating B small (l ∷ ls) f seen xs h m o n =
     let fresh = fresh-line seen (l .owns) in
     let next = counts-on (f .next) (length ls) h in

@@ -34,9 +34,9 @@ module _ (get : Findings → Option ℕ) (test : Line → Bool) (gets : (f : Fin
   pub first-failing : (ls : List Line) (f : Findings) (seen : List Bool) → f .next + length ls ≤ 4096 → get (found-in (passed ls (notes f seen))) ≡ or-first (get f) (failing test (f .next) ls)
   first-failing [] f seen h = none-more (get f)
     where
-    none-more : (o : Option ℕ) → o ≡ or-first o []
-    none-more None = refl
-    none-more (Some m) = refl
+      none-more : (o : Option ℕ) → o ≡ or-first o []
+      none-more None = refl
+      none-more (Some m) = refl
   first-failing (l ∷ ls) f seen h =
       let fresh = fresh-line seen (l .owns) in
       let next = counts-on (f .next) (length ls) h in

@@ -25,8 +25,9 @@ row-yes : (x n o : ℕ) → x ≤ o → o < x + n → in-row x n o ≡ true
 row-yes x zero o h k = absurd (omega arith)
 row-yes x (suc n) o h k =
     elim (cases-eq o x) [
-        inl e ↦ or-left (eqb o x) (in-row (suc x) n o) (eq-eqb o x e)
-      | inr ne ↦ or-right (eqb o x) (in-row (suc x) n o) (row-yes (suc x) n o (omega (arith, ne)) (omega arith)) ]
+      | inl e ↦ or-left (eqb o x) (in-row (suc x) n o) (eq-eqb o x e)
+      | inr ne ↦ or-right (eqb o x) (in-row (suc x) n o) (row-yes (suc x) n o (omega (arith, ne)) (omega arith))
+    ]
 
 row-no : (x n o : ℕ) → (o < x) ⊎ (x + n ≤ o) → in-row x n o ≡ false
 row-no x zero o h = refl
@@ -36,8 +37,9 @@ row-no x (suc n) o (inr h) = or-from (eqb o x) (in-row (suc x) n o) (ne-eqb o x 
 row-from-0 : (n o : ℕ) → in-row 0 n o ≡ ltb o n
 row-from-0 n o =
     elim (cases-lt o n) [
-        inl h ↦ row-yes 0 n o (omega arith) (omega arith) ∙ sym (lt-ltb o n h)
-      | inr h ↦ row-no 0 n o (inr (omega arith)) ∙ sym (le-ltb o n h) ]
+      | inl h ↦ row-yes 0 n o (omega arith) (omega arith) ∙ sym (lt-ltb o n h)
+      | inr h ↦ row-no 0 n o (inr (omega arith)) ∙ sym (le-ltb o n h)
+    ]
 
 module _ (B : Bounds) where
   abbrev asked : ℕ → ℕ → Declared → Bool

@@ -64,7 +64,7 @@ term-view a block t p x is e = subst (λ q. TermParts a block q x) (sym is) (ter
 line-parts : (a : Slots) (block : Range → Option Block) (p : Parts) (x : Term) (B : Bounds) (m : Option ReactiveLabel) (s : Around) (t : TermParts a block p x) → parts-line B p m s (row-cases a p) (own-of B (values-ops (t .values))) ≡ term-line B x m s
 line-parts a block p x B m s t =
     let n : label-in B m && (term-in B x && ops-in B (term-ops x)) ≡ parts-line B p m s (row-cases a p) (own-of B (values-ops (t .values))) .numbers =
-        ap₂ (λ u os. label-in B m && (u && ops-in B os)) (t .numbers B) (t .ops) in
+    ap₂ (λ u os. label-in B m && (u && ops-in B os)) (t .numbers B) (t .ops) in
     sym (ap₂ (λ u w. record { numbers = u; shapes = w; targets = term-aims x s; owns = None }) n (ap in-shape (t .ops)) ∙ ap (λ w. record { numbers = parts-line B p m s (row-cases a p) (own-of B (values-ops (t .values))) .numbers; shapes = in-shape (values-ops (t .values)); targets = w; owns = None }) (t .aims s))
 
 pub term-pass : (a : Slots) (block : Range → Option Block) (p : Parts) (x : Term) (B : Bounds) (m : Option ReactiveLabel) (s i : Around) (o : Own) (l : Line) (f : Findings) {n f₁ f₂ f₃ f₄ f₅ : Findings} {s₀ s₁ s₃ s₄ s₅ : List Bool}
@@ -84,7 +84,7 @@ term-pass a block p x B m s i o l f {n} {f₁} {f₂} {f₃} {f₄} {f₅} {s₀
     let H = opt-block-lines B (t .other .what) i in
     let C = cases-lines B (t .cases .what) i in
     let inner : term-lines B x (mark m) (labelled (mark-inside x m) s) ≡ L ++ (V ++ (E ++ (H ++ C))) =
-        t .lines B m s ∙ ap (λ w. opt-block-lines B (t .leading .what) w ++ (values-lines B (t .values) ++ (opt-block-lines B (t .first .what) w ++ (opt-block-lines B (t .other .what) w ++ cases-lines B (t .cases .what) w)))) (sym ei) in
+    t .lines B m s ∙ ap (λ w. opt-block-lines B (t .leading .what) w ++ (values-lines B (t .values) ++ (opt-block-lines B (t .first .what) w ++ (opt-block-lines B (t .other .what) w ++ cases-lines B (t .cases .what) w)))) (sym ei) in
     ap (λ w. passed (term-lines B x (mark m) (labelled (mark-inside x m) s)) (notes (noted f w true) s₀)) line-is
     ∙ ap₂ (λ ls g. passed ls (notes g s₀)) inner (sym enote)
     ∙ pass-then L (V ++ (E ++ (H ++ C))) (notes n s₀) (notes f₁ s₁) (led .by (t .leading .what) (t .leading .is))

@@ -50,6 +50,7 @@ impl Labels {
         found
     }
 
+    // One label more, if there is one.
     fn with(&self, label: Option<u32>) -> Labels
         requires { ⌜ now self .height < 64 ⌝ }
         ensures labels { λ r. ⌜ labels-of r ≡ plus label (labels-of (now (self .entry))) ⌝ }
@@ -75,16 +76,11 @@ fn named(label: Option<ReactiveLabel>) -> Option<u32>
 {
     match label {
         None => None,
-        Some(label) => {
-            if label.implicit {
-                None
-            } else {
-                Some(label.id)
-            }
-        }
+        Some(label) => { if label.implicit { None } else { Some(label.id) } }
     }
 }
 
+// Whether a jump has its target, where `unlabeled` tells of one without label.
 fn reaches(unlabeled: bool, labels: &Labels, target: u32, kind: ReactiveTerminalTargetKind) -> bool
     requires { ⌜ now labels .height ≤ 64 ⌝ }
     ensures { λ r. ⌜ r ≡ hits unlabeled (labels-of (now (labels .entry))) target kind ⌝ }
@@ -96,6 +92,7 @@ fn reaches(unlabeled: bool, labels: &Labels, target: u32, kind: ReactiveTerminal
     }
 }
 
+// Whether a target is below the counter of blocks, an unlabeled or implicit one too.
 pub fn jump_well(jump: Jump, bounds: Bounds) -> bool
     ensures { λ r. ⌜ r ≡ jump-in bounds jump ⌝ }
 {
@@ -114,12 +111,8 @@ impl Around {
     {
         match jump {
             Jump::Nowhere => true,
-            Jump::Break(target, kind) => {
-                reaches(self.breaks, &self.labels, target, kind)
-            }
-            Jump::Continue(target, kind) => {
-                reaches(self.looped, &self.loops, target, kind)
-            }
+            Jump::Break(target, kind) => { reaches(self.breaks, &self.labels, target, kind) }
+            Jump::Continue(target, kind) => { reaches(self.looped, &self.loops, target, kind) }
         }
     }
 

@@ -1,13 +1,11 @@
 // Blocks, their statements and what is inside them, in file order.
 ghost use mathlib.Core.Path.{_≡_};
 ghost use Prim.Native.Nat.{_+_};
-ghost use Rattle.hir.specs.Decode.{block-of, opt-block-of, slot-of, term-of, top-value};
-ghost use Rattle.hir.specs.Held.{slots};
 ghost use Rattle.questions.specs.Around.{around-of, Room};
 ghost use Rattle.questions.specs.Own.{Decodes};
 ghost use Rattle.questions.specs.Pass.{Outer};
 ghost use Rattle.questions.specs.Questions.{block-lines, opt-block-lines, cases-lines, stmt-lines, scope-line};
-ghost use Rattle.questions.specs.Rows.{cases-in, labelled-lines};
+ghost use Rattle.questions.specs.Rows.{block-at, optional-at, cases-at, terminal-at, statement-at, labelled-lines};
 use crate::around::Around;
 use crate::line::Bounds;
 use crate::line::Findings;
@@ -25,6 +23,7 @@ use hir::statement::ReactiveStatement;
 use hir::terminal::ReactiveBlock;
 use hir::terminal::ReactiveTerminalStatement;
 
+// The answers of a Scope block, or of a pruned one, which owns no scope.
 fn scope_line(scope: u32, owns: Option<u32>, bounds: Bounds) -> Line
     ensures { λ r. ⌜ r ≡ scope-line bounds scope owns ⌝ }
 {
@@ -36,10 +35,19 @@ fn scope_line(scope: u32, owns: Option<u32>, bounds: Bounds) -> Line
     }
 }
 
-fn optional(arena: &Arena, inner: Option<ReactiveBlock>, depth: u32, around: &Around, bounds: Bounds, seen: &mut [bool], found: Findings) -> Findings
-    requires decodes { ⌜ Decodes (opt-block-of (block-of depth (slots (now arena))) inner) ⌝ }
+// A block that may be missing.
+fn optional(
+    arena: &Arena,
+    inner: Option<ReactiveBlock>,
+    depth: u32,
+    around: &Around,
+    bounds: Bounds,
+    seen: &mut [bool],
+    found: Findings,
+) -> Findings
+    requires decodes { ⌜ Decodes (optional-at depth (now arena) inner) ⌝ }
     requires room { ⌜ Room (now around) depth ⌝ }
-    ensures { λ r. ⌜ Outer (opt-block-of (block-of depth (slots (now (arena .entry)))) inner) (λ b. opt-block-lines bounds b (around-of (now (around .entry)))) found (now (seen .entry)) r (now (seen .exit)) ⌝ }
+    ensures { λ r. ⌜ Outer (optional-at depth (now (arena .entry)) inner) (λ b. opt-block-lines bounds b (around-of (now (around .entry)))) found (now (seen .entry)) r (now (seen .exit)) ⌝ }
 {
     match inner {
         Some(inner) => block(arena, inner, depth, around, bounds, seen, found),
@@ -47,10 +55,19 @@ fn optional(arena: &Arena, inner: Option<ReactiveBlock>, depth: u32, around: &Ar
     }
 }
 
-fn cases(arena: &Arena, row: Range, depth: u32, around: &Around, bounds: Bounds, seen: &mut [bool], found: Findings) -> Findings
-    requires decodes { ⌜ Decodes (cases-in depth (slots (now arena)) row) ⌝ }
+// The blocks of a switch.
+fn cases(
+    arena: &Arena,
+    row: Range,
+    depth: u32,
+    around: &Around,
+    bounds: Bounds,
+    seen: &mut [bool],
+    found: Findings,
+) -> Findings
+    requires decodes { ⌜ Decodes (cases-at depth (now arena) row) ⌝ }
     requires room { ⌜ Room (now around) depth ⌝ }
-    ensures { λ r. ⌜ Outer (cases-in depth (slots (now (arena .entry))) row) (λ b. cases-lines bounds b (around-of (now (around .entry)))) found (now (seen .entry)) r (now (seen .exit)) ⌝ }
+    ensures { λ r. ⌜ Outer (cases-at depth (now (arena .entry)) row) (λ b. cases-lines bounds b (around-of (now (around .entry)))) found (now (seen .entry)) r (now (seen .exit)) ⌝ }
 {
     let start = row.start as usize;
     let mut found = found;
@@ -61,10 +78,19 @@ fn cases(arena: &Arena, row: Range, depth: u32, around: &Around, bounds: Bounds,
     found
 }
 
-fn terminal(arena: &Arena, shown: ReactiveTerminalStatement, depth: u32, around: &Around, bounds: Bounds, seen: &mut [bool], found: Findings) -> Findings
-    requires decodes { ⌜ Decodes (term-of (slots (now arena)) (top-value (slots (now arena) .inner)) (block-of depth (slots (now arena))) (shown .terminal)) ⌝ }
+// A terminal with all that is inside it. What stands around its own jump is without its label.
+fn terminal(
+    arena: &Arena,
+    shown: ReactiveTerminalStatement,
+    depth: u32,
+    around: &Around,
+    bounds: Bounds,
+    seen: &mut [bool],
+    found: Findings,
+) -> Findings
+    requires decodes { ⌜ Decodes (terminal-at depth (now arena) (shown .terminal)) ⌝ }
     requires room { ⌜ Room (now around) (depth + 1) ⌝ }
-    ensures { λ r. ⌜ Outer (term-of (slots (now (arena .entry))) (top-value (slots (now (arena .entry)) .inner)) (block-of depth (slots (now (arena .entry)))) (shown .terminal)) (labelled-lines bounds (shown .label) (around-of (now (around .entry)))) found (now (seen .entry)) r (now (seen .exit)) ⌝ }
+    ensures { λ r. ⌜ Outer (terminal-at depth (now (arena .entry)) (shown .terminal)) (labelled-lines bounds (shown .label) (around-of (now (around .entry)))) found (now (seen .entry)) r (now (seen .exit)) ⌝ }
 {
     let parts = view(shown.terminal);
     let own = values_own(&arena.inner, parts, bounds);
@@ -78,10 +104,19 @@ fn terminal(arena: &Arena, shown: ReactiveTerminalStatement, depth: u32, around:
     cases(arena, parts.cases, depth, &inner, bounds, seen, handled)
 }
 
-fn statement(arena: &Arena, slot: u32, depth: u32, around: &Around, bounds: Bounds, seen: &mut [bool], found: Findings) -> Findings
-    requires decodes { ⌜ Decodes (slot-of (slots (now arena)) (block-of depth (slots (now arena))) slot) ⌝ }
+// The statement in a slot, with all that is inside it.
+fn statement(
+    arena: &Arena,
+    slot: u32,
+    depth: u32,
+    around: &Around,
+    bounds: Bounds,
+    seen: &mut [bool],
+    found: Findings,
+) -> Findings
+    requires decodes { ⌜ Decodes (statement-at depth (now arena) slot) ⌝ }
     requires room { ⌜ Room (now around) (depth + 1) ⌝ }
-    ensures { λ r. ⌜ Outer (slot-of (slots (now (arena .entry))) (block-of depth (slots (now (arena .entry)))) slot) (λ s. stmt-lines bounds s (around-of (now (around .entry)))) found (now (seen .entry)) r (now (seen .exit)) ⌝ }
+    ensures { λ r. ⌜ Outer (statement-at depth (now (arena .entry)) slot) (λ s. stmt-lines bounds s (around-of (now (around .entry)))) found (now (seen .entry)) r (now (seen .exit)) ⌝ }
 {
     match arena.statements[slot as usize] {
         ReactiveStatement::Instruction(top) => top_instruction(&arena.inner, top, bounds, found),
@@ -92,20 +127,45 @@ fn statement(arena: &Arena, slot: u32, depth: u32, around: &Around, bounds: Boun
             let fresh = claim(seen, shown.scope);
             let line = scope_line(shown.scope, Some(shown.scope), bounds);
             let noted = note(found, line, fresh);
-            block(arena, shown.instructions, depth, around, bounds, seen, noted)
+            block(
+                arena,
+                shown.instructions,
+                depth,
+                around,
+                bounds,
+                seen,
+                noted,
+            )
         }
         ReactiveStatement::PrunedScope(shown) => {
             let line = scope_line(shown.scope, None, bounds);
             let noted = note(found, line, true);
-            block(arena, shown.instructions, depth, around, bounds, seen, noted)
+            block(
+                arena,
+                shown.instructions,
+                depth,
+                around,
+                bounds,
+                seen,
+                noted,
+            )
         }
     }
 }
 
-pub fn block(arena: &Arena, row: ReactiveBlock, depth: u32, around: &Around, bounds: Bounds, seen: &mut [bool], found: Findings) -> Findings
-    requires decodes { ⌜ Decodes (block-of depth (slots (now arena)) row) ⌝ }
+// A block at most `depth` deep. `seen` marks the scopes whose Scope blocks came earlier.
+pub fn block(
+    arena: &Arena,
+    row: ReactiveBlock,
+    depth: u32,
+    around: &Around,
+    bounds: Bounds,
+    seen: &mut [bool],
+    found: Findings,
+) -> Findings
+    requires decodes { ⌜ Decodes (block-at depth (now arena) row) ⌝ }
     requires room { ⌜ Room (now around) depth ⌝ }
-    ensures { λ r. ⌜ Outer (block-of depth (slots (now (arena .entry))) row) (λ b. block-lines bounds b (around-of (now (around .entry)))) found (now (seen .entry)) r (now (seen .exit)) ⌝ }
+    ensures { λ r. ⌜ Outer (block-at depth (now (arena .entry)) row) (λ b. block-lines bounds b (around-of (now (around .entry)))) found (now (seen .entry)) r (now (seen .exit)) ⌝ }
 {
     let start = row.start as usize;
     let inner = depth - 1;

@@ -66,7 +66,11 @@ fn answer(found: Findings, recordless: bool) -> Result<(), CheckFault>
 
 // Asks the four questions one after the other. A refusal names the first statement in file order that has the fault, or 0
 // for a fault in a table.
-pub fn check(environment: &Environment, arena: &Arena, root: ReactiveBlock) -> Result<(), CheckFault>
+pub fn check(
+    environment: &Environment,
+    arena: &Arena,
+    root: ReactiveBlock,
+) -> Result<(), CheckFault>
     requires rooted { ⌜ isSome (root-of (slots (now arena)) root) ≡ true ⌝ }
     requires counted { ⌜ sizes (held (now environment) (now arena) root) .statements ≤ 2048 ⌝ }
     ensures { λ r. ⌜ Answers (held (now (environment .entry)) (now (arena .entry)) root) r ⌝ }

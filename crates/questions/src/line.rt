@@ -39,18 +39,13 @@ pub const NOTHING: Findings = Findings {
     scopes: None,
 };
 
+// What was found earlier, or else this number, unless all is well.
 fn first(found: Option<u32>, well: bool, number: u32) -> Option<u32>
     ensures { λ r. ⌜ r ≡ earliest found well number ⌝ }
 {
     match found {
         Some(earlier) => Some(earlier),
-        None => {
-            if well {
-                None
-            } else {
-                Some(number)
-            }
-        }
+        None => { if well { None } else { Some(number) } }
     }
 }
 

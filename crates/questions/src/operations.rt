@@ -22,8 +22,12 @@ pub struct Own {
     pub shapes: bool,
 }
 
-pub const NONE: Own = Own { numbers: true, shapes: true };
+pub const NONE: Own = Own {
+    numbers: true,
+    shapes: true,
+};
 
+// Whether the identifiers of places are in their table.
 fn places_well(places: &[Place], bounds: Bounds) -> bool
     ensures { λ r. ⌜ r ≡ every (place-in bounds) (now (places .entry)) ⌝ }
 {
@@ -44,6 +48,7 @@ pub fn place_well(place: Option<Place>, bounds: Bounds) -> bool
     }
 }
 
+// Whether a kind writes so many places.
 fn writes(kind: u32, places: u32) -> bool
     ensures { λ r. ⌜ r ≡ writes-well kind places ⌝ }
 {
@@ -54,6 +59,7 @@ fn writes(kind: u32, places: u32) -> bool
     }
 }
 
+// Whether a kind has so many operands.
 fn reads(kind: u32, operands: u32) -> bool
     ensures { λ r. ⌜ r ≡ reads-well kind operands ⌝ }
 {
@@ -65,6 +71,7 @@ fn reads(kind: u32, operands: u32) -> bool
     }
 }
 
+// The answers of two lists of operations together.
 pub fn both(a: Own, b: Own) -> Own
     ensures { λ r. ⌜ r ≡ both-own a b ⌝ }
 {
@@ -74,6 +81,7 @@ pub fn both(a: Own, b: Own) -> Own
     }
 }
 
+// The answers of one operation.
 fn operation(arena: &ValueArena, value: InstructionValue, bounds: Bounds) -> Own
     requires { ⌜ Decodes (op-of (value-slots (now arena)) value) ⌝ }
     ensures { λ r. ⌜ Same (op-of (value-slots (now (arena .entry))) value) (λ o. own-of bounds (o ∷ [])) r ⌝ }

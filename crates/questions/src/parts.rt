@@ -50,15 +50,24 @@ const LOOP: Parts = Parts {
     cases: EMPTY,
 };
 
+// The parts of each terminal.
 pub fn view(terminal: ReactiveTerminal) -> Parts
     ensures { λ r. ⌜ r ≡ parts-of terminal ⌝ }
 {
     match terminal {
-        ReactiveTerminal::Break { target, target_kind, .. } => Parts {
+        ReactiveTerminal::Break {
+            target,
+            target_kind,
+            ..
+        } => Parts {
             jump: Jump::Break(target, target_kind),
             ..BARE
         },
-        ReactiveTerminal::Continue { target, target_kind, .. } => Parts {
+        ReactiveTerminal::Continue {
+            target,
+            target_kind,
+            ..
+        } => Parts {
             jump: Jump::Continue(target, target_kind),
             ..BARE
         },
@@ -76,12 +85,20 @@ pub fn view(terminal: ReactiveTerminal) -> Parts
             cases,
             ..BARE
         },
-        ReactiveTerminal::DoWhile { loop_block, test, .. } => Parts {
+        ReactiveTerminal::DoWhile {
+            loop_block,
+            test,
+            ..
+        } => Parts {
             leading: Some(loop_block),
             test: Some(test),
             ..LOOP
         },
-        ReactiveTerminal::While { test, loop_block, .. } => Parts {
+        ReactiveTerminal::While {
+            test,
+            loop_block,
+            ..
+        } => Parts {
             test: Some(test),
             block: Some(loop_block),
             ..LOOP
@@ -110,7 +127,11 @@ pub fn view(terminal: ReactiveTerminal) -> Parts
             block: Some(loop_block),
             ..LOOP
         },
-        ReactiveTerminal::ForIn { init, loop_block, .. } => Parts {
+        ReactiveTerminal::ForIn {
+            init,
+            loop_block,
+            ..
+        } => Parts {
             init: Some(init),
             block: Some(loop_block),
             ..LOOP

@@ -53,7 +53,8 @@ fn early_well(early: Option<ReactiveScopeEarlyReturn>, bounds: Bounds) -> bool
 fn declaration_well(declaration: ReactiveScopeDeclaration, bounds: Bounds) -> bool
     ensures { λ r. ⌜ r ≡ declaration-in bounds declaration ⌝ }
 {
-    (declaration.key < bounds.identifiers) & ((declaration.identifier < bounds.identifiers) & (declaration.scope < bounds.scopes))
+    (declaration.key < bounds.identifiers)
+        & ((declaration.identifier < bounds.identifiers) & (declaration.scope < bounds.scopes))
 }
 
 // A declaration that is in no scope's list asks nothing.
@@ -100,6 +101,7 @@ fn declarations_well(declarations: &[Declared], bounds: Bounds) -> bool
     true
 }
 
+// Whether the numbers in all tables are in range.
 pub fn tables_well(environment: &Environment, bounds: Bounds) -> bool
     ensures { λ r. ⌜ r ≡ tables-in bounds (now (environment .entry)) ⌝ }
 {

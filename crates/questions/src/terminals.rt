@@ -34,6 +34,7 @@ fn label_well(label: Option<ReactiveLabel>, bounds: Bounds) -> bool
     }
 }
 
+// Whether the tests of switch cases are in their table.
 fn tests(cases: &[ReactiveSwitchCase], bounds: Bounds) -> bool
     ensures { λ r. ⌜ r ≡ tests-well bounds (now (cases .entry)) ⌝ }
 {
@@ -45,6 +46,7 @@ fn tests(cases: &[ReactiveSwitchCase], bounds: Bounds) -> bool
     true
 }
 
+// The operations of a terminal's values.
 pub fn values_own(arena: &ValueArena, parts: Parts, bounds: Bounds) -> Own
     requires { ⌜ ValuesIn (value-slots (now arena)) parts ⌝ }
     ensures { λ r. ⌜ OwnValues (value-slots (now (arena .entry))) parts bounds r ⌝ }
@@ -65,16 +67,27 @@ pub fn values_inside(arena: &ValueArena, parts: Parts, bounds: Bounds, found: Fi
     inside(arena, parts.update, bounds, tested)
 }
 
-pub fn terminal_line(arena: &Arena, parts: Parts, label: Option<ReactiveLabel>, own: Own, around: &Around, bounds: Bounds) -> Line
+// A terminal's answers, by its parts and the answers of its operations.
+pub fn terminal_line(
+    arena: &Arena,
+    parts: Parts,
+    label: Option<ReactiveLabel>,
+    own: Own,
+    around: &Around,
+    bounds: Bounds,
+) -> Line
     requires cases { ⌜ parts .cases .start + parts .cases .count ≤ vec-len (now arena .cases) ⌝ }
     requires room { ⌜ Room (now around) 1 ⌝ }
     ensures { λ r. ⌜ r ≡ parts-line bounds parts label (around-of (now (around .entry))) (row-cases (slots (now (arena .entry))) parts) own ⌝ }
 {
     let start = parts.cases.start as usize;
-    let cases = &arena.cases.as_slice()[start..start + parts.cases.count as usize];
+    let cases = &arena
+        .cases
+        .as_slice()[start..start + parts.cases.count as usize];
     let tested = tests(cases, bounds);
     let placed = place_well(parts.place, bounds);
-    let numbers = label_well(label, bounds) & ((placed & (jump_well(parts.jump, bounds) & tested)) & own.numbers);
+    let numbers = label_well(label, bounds)
+        & ((placed & (jump_well(parts.jump, bounds) & tested)) & own.numbers);
     Line {
         numbers,
         shapes: own.shapes,

@@ -21,6 +21,7 @@ use hir::value::ReactiveInstruction;
 use hir::value::ReactiveValue;
 use hir::value_arena::ValueArena;
 
+// The answers of an instruction, by those of its operations.
 fn line(lvalue: Option<Place>, own: Own, bounds: Bounds) -> Line
     ensures { λ r. ⌜ r ≡ own-line bounds lvalue own ⌝ }
 {
@@ -32,7 +33,14 @@ fn line(lvalue: Option<Place>, own: Own, bounds: Bounds) -> Line
     }
 }
 
-fn instruction(arena: &ValueArena, instruction: ReactiveInstruction, depth: u32, bounds: Bounds, found: Findings) -> Findings
+// An instruction with those inside its value.
+fn instruction(
+    arena: &ValueArena,
+    instruction: ReactiveInstruction,
+    depth: u32,
+    bounds: Bounds,
+    found: Findings,
+) -> Findings
     requires { ⌜ Decodes (instr-of (value-of depth (value-slots (now arena))) instruction) ⌝ }
     ensures { λ r. ⌜ Inner (instr-of (value-of depth (value-slots (now (arena .entry)))) instruction) (instr-lines bounds) found r ⌝ }
 {
@@ -41,7 +49,14 @@ fn instruction(arena: &ValueArena, instruction: ReactiveInstruction, depth: u32,
     value(arena, instruction.value, depth, bounds, noted)
 }
 
-fn sequence(arena: &ValueArena, instructions: Range, depth: u32, bounds: Bounds, found: Findings) -> Findings
+// The instructions of a sequence.
+fn sequence(
+    arena: &ValueArena,
+    instructions: Range,
+    depth: u32,
+    bounds: Bounds,
+    found: Findings,
+) -> Findings
     requires { ⌜ Decodes (instrs-in depth (value-slots (now arena)) instructions) ⌝ }
     ensures { λ r. ⌜ Inner (instrs-in depth (value-slots (now (arena .entry))) instructions) (instrs-lines bounds) found r ⌝ }
 {
@@ -54,6 +69,7 @@ fn sequence(arena: &ValueArena, instructions: Range, depth: u32, bounds: Bounds,
     found
 }
 
+// The instructions inside a value at most `depth` deep.
 fn value(arena: &ValueArena, slot: u32, depth: u32, bounds: Bounds, found: Findings) -> Findings
     requires { ⌜ Decodes (value-of depth (value-slots (now arena)) slot) ⌝ }
     ensures { λ r. ⌜ Inner (value-of depth (value-slots (now (arena .entry))) slot) (val-lines bounds) found r ⌝ }
@@ -88,7 +104,12 @@ fn value(arena: &ValueArena, slot: u32, depth: u32, bounds: Bounds, found: Findi
 }
 
 // A statement's instruction, with those inside its value.
-pub fn top_instruction(arena: &ValueArena, top: ReactiveInstruction, bounds: Bounds, found: Findings) -> Findings
+pub fn top_instruction(
+    arena: &ValueArena,
+    top: ReactiveInstruction,
+    bounds: Bounds,
+    found: Findings,
+) -> Findings
     requires { ⌜ Decodes (instr-of (top-value (value-slots (now arena))) top) ⌝ }
     ensures { λ r. ⌜ Inner (instr-of (top-value (value-slots (now (arena .entry)))) top) (instr-lines bounds) found r ⌝ }
 {

@@ -94,4 +94,3 @@ returns-in-OptionalExpression t c =
           let p = V.optional-parts (c .args .depth) (value-slots (c .args .arena .now)) (c .args .slot) v _ e (c .index .ensures) (c .in-OptionalExpression .value) (c .in-OptionalExpression .optional) (c .in-OptionalExpression .is) in
           c .value-own-in-OptionalExpression .ensures .of (p .1) (p .2) ∙ ap (λ x. own-of (c .args .bounds) (val-ops x)) (p .3);
     }
-
