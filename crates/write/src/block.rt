@@ -26,7 +26,7 @@ use hir::terminal::ReactiveBlock;
 use hir::terminal::ReactiveTerminal;
 use hir::terminal::ReactiveTerminalStatement;
 
-fn put_alt(
+fn put_opt_block(
     arena: &Arena,
     block: Option<ReactiveBlock>,
     depth: u32,
@@ -63,7 +63,7 @@ fn put_cases(
     }
     let case = arena.cases[start];
     let block = put_opt_place(case.test, out, at);
-    let next = put_alt(arena, case.block, depth, out, block);
+    let next = put_opt_block(arena, case.block, depth, out, block);
     put_cases(arena, start + 1, count - 1, depth, out, next)
 }
 
@@ -202,7 +202,7 @@ fn put_if(
     let place = put_word(out, at, 10);
     let count = put_place(test, out, place);
     let option = put_block(arena, consequent, depth, out, count);
-    let order = put_alt(arena, alternate, depth, out, option);
+    let order = put_opt_block(arena, alternate, depth, out, option);
     put_word(out, order, id)
 }
 
@@ -242,7 +242,7 @@ fn put_try(
     put_word(out, order, id)
 }
 
-fn put_term(
+fn put_terminal(
     arena: &Arena,
     terminal: ReactiveTerminal,
     depth: u32,
@@ -320,7 +320,7 @@ fn put_term(
     }
 }
 
-fn put_terminal(
+fn put_terminal_statement(
     arena: &Arena,
     statement: ReactiveTerminalStatement,
     depth: u32,
@@ -331,7 +331,7 @@ fn put_terminal(
     ensures { λ r. ⌜ Written stmt-words (statement-in depth (now (arena .entry)) (Terminal statement)) (now (out .entry)) (now (out .exit)) at r ⌝ }
 {
     let case = put_word(out, at, 1);
-    let label = put_term(arena, statement.terminal, depth, out, case);
+    let label = put_terminal(arena, statement.terminal, depth, out, case);
     put_label(statement.label, out, label)
 }
 
@@ -353,7 +353,7 @@ fn put_scope(
     put_block(arena, block, depth, out, count)
 }
 
-fn put_stmt(arena: &Arena, slot: u32, depth: u32, out: &mut [u8], at: usize) -> usize
+fn put_statement(arena: &Arena, slot: u32, depth: u32, out: &mut [u8], at: usize) -> usize
     requires { ⌜ Writable stmt-words (slot-in depth (now arena) slot) (now out) at ⌝ }
     ensures { λ r. ⌜ Written stmt-words (slot-in depth (now (arena .entry)) slot) (now (out .entry)) (now (out .exit)) at r ⌝ }
 {
@@ -362,7 +362,13 @@ fn put_stmt(arena: &Arena, slot: u32, depth: u32, out: &mut [u8], at: usize) -> 
             let next = put_word(out, at, 0);
             put_instruction(&arena.inner, instruction, out, next)
         }
-        ReactiveStatement::Terminal(statement) => put_terminal(arena, statement, depth, out, at),
+        ReactiveStatement::Terminal(statement) => put_terminal_statement(
+            arena,
+            statement,
+            depth,
+            out,
+            at,
+        ),
         ReactiveStatement::Scope(block) => put_scope(
             arena,
             2,
@@ -385,7 +391,7 @@ fn put_stmt(arena: &Arena, slot: u32, depth: u32, out: &mut [u8], at: usize) -> 
 }
 
 // The statements of a row, without their count.
-fn put_stmts(
+fn put_statements(
     arena: &Arena,
     start: usize,
     count: u32,
@@ -401,8 +407,8 @@ fn put_stmts(
         return at;
     }
     let slot = arena.entries[start];
-    let next = put_stmt(arena, slot, depth, out, at);
-    put_stmts(arena, start + 1, count - 1, depth, out, next)
+    let next = put_statement(arena, slot, depth, out, at);
+    put_statements(arena, start + 1, count - 1, depth, out, next)
 }
 
 fn put_block(arena: &Arena, block: ReactiveBlock, depth: u32, out: &mut [u8], at: usize) -> usize
@@ -410,7 +416,7 @@ fn put_block(arena: &Arena, block: ReactiveBlock, depth: u32, out: &mut [u8], at
     ensures { λ r. ⌜ Written block-words (block-in depth (now (arena .entry)) block) (now (out .entry)) (now (out .exit)) at r ⌝ }
 {
     let first = put_word(out, at, block.count);
-    put_stmts(
+    put_statements(
         arena,
         block.start as usize,
         block.count,

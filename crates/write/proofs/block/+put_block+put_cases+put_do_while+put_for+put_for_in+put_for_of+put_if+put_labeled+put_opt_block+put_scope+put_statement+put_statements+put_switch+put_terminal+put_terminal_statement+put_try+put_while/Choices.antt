@@ -1,12 +1,12 @@
 use Prim.Native.Nat.{_+_, _*_}
-use Rattle.write.proofs.block.+put_alt+put_block+put_cases+put_do_while+put_for+put_for_in+put_for_of+put_if+put_labeled+put_scope+put_stmt+put_stmts+put_switch+put_term+put_terminal+put_try+put_while.Given as given
+use Rattle.write.proofs.block.+put_block+put_cases+put_do_while+put_for+put_for_in+put_for_of+put_if+put_labeled+put_opt_block+put_scope+put_statement+put_statements+put_switch+put_terminal+put_terminal_statement+put_try+put_while.Given as given
 
 -- a count is below 2 ^ 32, so a step down in depth outweighs it
 abbrev pub μ-put-block : given.MeasureT-put-block
 μ-put-block l = l .depth * 17179869184 + 1
 
-abbrev pub μ-put-alt : given.MeasureT-put-alt
-μ-put-alt l = l .depth * 17179869184 + 2
+abbrev pub μ-put-opt-block : given.MeasureT-put-opt-block
+μ-put-opt-block l = l .depth * 17179869184 + 2
 
 abbrev pub μ-put-cases : given.MeasureT-put-cases
 μ-put-cases l = l .depth * 17179869184 + (l .count + 3)
@@ -41,14 +41,14 @@ abbrev pub μ-put-try : given.MeasureT-put-try
 abbrev pub μ-put-switch : given.MeasureT-put-switch
 μ-put-switch l = l .depth * 17179869184 + 8589934592
 
-abbrev pub μ-put-term : given.MeasureT-put-term
-μ-put-term l = l .depth * 17179869184 + 8589934593
-
 abbrev pub μ-put-terminal : given.MeasureT-put-terminal
-μ-put-terminal l = l .depth * 17179869184 + 8589934594
+μ-put-terminal l = l .depth * 17179869184 + 8589934593
 
-abbrev pub μ-put-stmt : given.MeasureT-put-stmt
-μ-put-stmt l = l .depth * 17179869184 + 8589934595
+abbrev pub μ-put-terminal-statement : given.MeasureT-put-terminal-statement
+μ-put-terminal-statement l = l .depth * 17179869184 + 8589934594
 
-abbrev pub μ-put-stmts : given.MeasureT-put-stmts
-μ-put-stmts l = l .depth * 17179869184 + (l .count + 8589934596)
+abbrev pub μ-put-statement : given.MeasureT-put-statement
+μ-put-statement l = l .depth * 17179869184 + 8589934595
+
+abbrev pub μ-put-statements : given.MeasureT-put-statements
+μ-put-statements l = l .depth * 17179869184 + (l .count + 8589934596)

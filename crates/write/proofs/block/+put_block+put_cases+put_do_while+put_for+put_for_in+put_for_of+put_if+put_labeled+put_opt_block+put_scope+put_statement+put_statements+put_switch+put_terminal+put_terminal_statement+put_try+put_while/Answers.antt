@@ -12,7 +12,7 @@ use Rattle.hir.proofs.Parts.{switch-parts, do-while-parts, while-parts, for-par
 use Rattle.write.specs.Stands.{block-in, cases-in, terminal-in, slot-in, body-in}
 use Rattle.write.proofs.Lay.{wrote-none, wrote-more, word-as, room-word, room-first, room-rest, room-of, writable, written}
 use Rattle.write.proofs.Nodes.{statement-at, statement-node}
-use Rattle.write.proofs.block.+put_alt+put_block+put_cases+put_do_while+put_for+put_for_in+put_for_of+put_if+put_labeled+put_scope+put_stmt+put_stmts+put_switch+put_term+put_terminal+put_try+put_while.Needs as need
+use Rattle.write.proofs.block.+put_block+put_cases+put_do_while+put_for+put_for_in+put_for_of+put_if+put_labeled+put_opt_block+put_scope+put_statement+put_statements+put_switch+put_terminal+put_terminal_statement+put_try+put_while.Needs as need
 
 pub put-do-while-put-word-count-requires : need.put-do-while-put-word-count-requires
 put-do-while-put-word-count-requires t c κs =
@@ -262,8 +262,8 @@ put-if-put-block-option-requires t c κs =
     let r₂ = room-rest _ (c .put-place-count .ensures) r₁ in
     (omega arith, writable block-words (p .consequent-is) (room-first _ _ r₂))
 
-pub put-if-put-alt-order-requires : need.put-if-put-alt-order-requires
-put-if-put-alt-order-requires t c κs =
+pub put-if-put-opt-block-order-requires : need.put-if-put-opt-block-order-requires
+put-if-put-opt-block-order-requires t c κs =
     let p = if-parts (slots (c .args .arena .now)) (top-value (value-slots (c .args .arena .now .inner))) (block-in (c .args .depth) (c .args .arena .now)) (c .args .test) (c .args .consequent) (c .args .alternate) (c .args .id) (c .pre .what) (c .pre .stands) in
     let r₀ = room-of (c .pre) (if (c .args .test) (p .consequent) (p .alternate) (c .args .id)) (p .is) in
     let r₁ = room-rest _ (c .put-word-place .ensures) r₀ in
@@ -278,13 +278,13 @@ put-if-put-word-requires t c κs =
     let r₁ = room-rest _ (c .put-word-place .ensures) r₀ in
     let r₂ = room-rest _ (c .put-place-count .ensures) r₁ in
     let r₃ = room-rest _ (c .put-block-option .ensures .wrote _ (p .consequent-is)) r₂ in
-    let r₄ = room-rest _ (c .put-alt-order .ensures .wrote _ (p .alternate-is)) r₃ in
+    let r₄ = room-rest _ (c .put-opt-block-order .ensures .wrote _ (p .alternate-is)) r₃ in
     room-word r₄
 
 pub put-if-returns : need.put-if-returns
 put-if-returns t c =
     let p = if-parts (slots (c .args .arena .now)) (top-value (value-slots (c .args .arena .now .inner))) (block-in (c .args .depth) (c .args .arena .now)) (c .args .test) (c .args .consequent) (c .args .alternate) (c .args .id) (c .pre .what) (c .pre .stands) in
-    written (c .pre) (if (c .args .test) (p .consequent) (p .alternate) (c .args .id)) (p .is) (wrote-more (c .put-word-place .ensures) (wrote-more (c .put-place-count .ensures) (wrote-more (c .put-block-option .ensures .wrote _ (p .consequent-is)) (wrote-more (c .put-alt-order .ensures .wrote _ (p .alternate-is)) (c .put-word .ensures)))))
+    written (c .pre) (if (c .args .test) (p .consequent) (p .alternate) (c .args .id)) (p .is) (wrote-more (c .put-word-place .ensures) (wrote-more (c .put-place-count .ensures) (wrote-more (c .put-block-option .ensures .wrote _ (p .consequent-is)) (wrote-more (c .put-opt-block-order .ensures .wrote _ (p .alternate-is)) (c .put-word .ensures)))))
 
 pub put-labeled-put-word-count-requires : need.put-labeled-put-word-count-requires
 put-labeled-put-word-count-requires t c κs =
@@ -402,31 +402,31 @@ put-switch-returns t c =
     let p = switch-parts (slots (c .args .arena .now)) (top-value (value-slots (c .args .arena .now .inner))) (block-in (c .args .depth) (c .args .arena .now)) (c .args .test) (c .args .cases) (c .args .id) (c .pre .what) (c .pre .stands) in
     written (c .pre) (switch (c .args .test) (p .cases) (c .args .id)) (p .is) (wrote-more (c .put-word-place .ensures) (wrote-more (c .put-place-count .ensures) (wrote-more (word-as (sym (p .count-is)) (c .put-word-first .ensures)) (wrote-more (c .put-cases-order .ensures .wrote _ (p .cases-are)) (c .put-word .ensures)))))
 
-pub put-terminal-put-word-case-requires : need.put-terminal-put-word-case-requires
-put-terminal-put-word-case-requires t c κs =
+pub put-terminal-statement-put-word-case-requires : need.put-terminal-statement-put-word-case-requires
+put-terminal-statement-put-word-case-requires t c κs =
     let p = terminal-parts (slots (c .args .arena .now)) (top-value (value-slots (c .args .arena .now .inner))) (block-in (c .args .depth) (c .args .arena .now)) (c .args .statement) (c .pre .what) (c .pre .stands) in
     let r₀ = room-of (c .pre) (terminal (p .term) (c .args .statement .label)) (p .is) in
     room-word r₀
 
-pub put-terminal-put-term-label-requires : need.put-terminal-put-term-label-requires
-put-terminal-put-term-label-requires t c κs =
+pub put-terminal-statement-put-terminal-label-requires : need.put-terminal-statement-put-terminal-label-requires
+put-terminal-statement-put-terminal-label-requires t c κs =
     let p = terminal-parts (slots (c .args .arena .now)) (top-value (value-slots (c .args .arena .now .inner))) (block-in (c .args .depth) (c .args .arena .now)) (c .args .statement) (c .pre .what) (c .pre .stands) in
     let r₀ = room-of (c .pre) (terminal (p .term) (c .args .statement .label)) (p .is) in
     let r₁ = room-rest _ (c .put-word-case .ensures) r₀ in
     (omega arith, writable term-words (p .term-is) (room-first _ _ r₁))
 
-pub put-terminal-put-label-requires : need.put-terminal-put-label-requires
-put-terminal-put-label-requires t c κs =
+pub put-terminal-statement-put-label-requires : need.put-terminal-statement-put-label-requires
+put-terminal-statement-put-label-requires t c κs =
     let p = terminal-parts (slots (c .args .arena .now)) (top-value (value-slots (c .args .arena .now .inner))) (block-in (c .args .depth) (c .args .arena .now)) (c .args .statement) (c .pre .what) (c .pre .stands) in
     let r₀ = room-of (c .pre) (terminal (p .term) (c .args .statement .label)) (p .is) in
     let r₁ = room-rest _ (c .put-word-case .ensures) r₀ in
-    let r₂ = room-rest _ (c .put-term-label .ensures .wrote _ (p .term-is)) r₁ in
+    let r₂ = room-rest _ (c .put-terminal-label .ensures .wrote _ (p .term-is)) r₁ in
     r₂
 
-pub put-terminal-returns : need.put-terminal-returns
-put-terminal-returns t c =
+pub put-terminal-statement-returns : need.put-terminal-statement-returns
+put-terminal-statement-returns t c =
     let p = terminal-parts (slots (c .args .arena .now)) (top-value (value-slots (c .args .arena .now .inner))) (block-in (c .args .depth) (c .args .arena .now)) (c .args .statement) (c .pre .what) (c .pre .stands) in
-    written (c .pre) (terminal (p .term) (c .args .statement .label)) (p .is) (wrote-more (c .put-word-case .ensures) (wrote-more (c .put-term-label .ensures .wrote _ (p .term-is)) (c .put-label .ensures)))
+    written (c .pre) (terminal (p .term) (c .args .statement .label)) (p .is) (wrote-more (c .put-word-case .ensures) (wrote-more (c .put-terminal-label .ensures .wrote _ (p .term-is)) (c .put-label .ensures)))
 
 pub put-scope-put-word-second-requires : need.put-scope-put-word-second-requires
 put-scope-put-word-second-requires t c κs =
@@ -450,28 +450,28 @@ pub put-scope-returns : need.put-scope-returns
 put-scope-returns t c =
     written (c .pre) (c .pre .what) (refl) (wrote-more (c .put-word-second .ensures) (wrote-more (c .put-word-count .ensures) (c .put-block .ensures .wrote _ (c .pre .stands))))
 
-pub put-alt-put-word-requires : need.put-alt-put-word-requires
-put-alt-put-word-requires t c κs =
+pub put-opt-block-put-word-requires : need.put-opt-block-put-word-requires
+put-opt-block-put-word-requires t c κs =
     let n = some-some (sym (ap (opt-block-of (block-in (c .args .depth) (c .args .arena .now))) (c .in-None .is)) ∙ c .pre .stands) in
     room-word (room-of (c .pre) noBlock n)
 
-pub put-alt-put-word-count-requires : need.put-alt-put-word-count-requires
-put-alt-put-word-count-requires t c κs =
+pub put-opt-block-put-word-count-requires : need.put-opt-block-put-word-count-requires
+put-opt-block-put-word-count-requires t c κs =
     let p = some-block-parts (slots (c .args .arena .now)) (top-value (value-slots (c .args .arena .now .inner))) (block-in (c .args .depth) (c .args .arena .now)) (c .in-Some .block) (c .pre .what) (sym (ap (opt-block-of (block-in (c .args .depth) (c .args .arena .now))) (c .in-Some .is)) ∙ c .pre .stands) in
     room-word (room-of (c .pre) (someBlock (p .body)) (p .is))
 
-pub put-alt-put-block-requires : need.put-alt-put-block-requires
-put-alt-put-block-requires t c κs =
+pub put-opt-block-put-block-requires : need.put-opt-block-put-block-requires
+put-opt-block-put-block-requires t c κs =
     let p = some-block-parts (slots (c .args .arena .now)) (top-value (value-slots (c .args .arena .now .inner))) (block-in (c .args .depth) (c .args .arena .now)) (c .in-Some .block) (c .pre .what) (sym (ap (opt-block-of (block-in (c .args .depth) (c .args .arena .now))) (c .in-Some .is)) ∙ c .pre .stands) in
     (omega arith, writable block-words (p .body-is) (room-rest _ (c .put-word-count .ensures) (room-of (c .pre) (someBlock (p .body)) (p .is))))
 
-pub put-alt-returns-in-None : need.put-alt-returns-in-None
-put-alt-returns-in-None t c =
+pub put-opt-block-returns-in-None : need.put-opt-block-returns-in-None
+put-opt-block-returns-in-None t c =
     let n = some-some (sym (ap (opt-block-of (block-in (c .args .depth) (c .args .arena .now))) (c .in-None .is)) ∙ c .pre .stands) in
     written (c .pre) noBlock n (c .put-word .ensures)
 
-pub put-alt-returns-in-Some : need.put-alt-returns-in-Some
-put-alt-returns-in-Some t c =
+pub put-opt-block-returns-in-Some : need.put-opt-block-returns-in-Some
+put-opt-block-returns-in-Some t c =
     let p = some-block-parts (slots (c .args .arena .now)) (top-value (value-slots (c .args .arena .now .inner))) (block-in (c .args .depth) (c .args .arena .now)) (c .in-Some .block) (c .pre .what) (sym (ap (opt-block-of (block-in (c .args .depth) (c .args .arena .now))) (c .in-Some .is)) ∙ c .pre .stands) in
     written (c .pre) (someBlock (p .body)) (p .is) (wrote-more (c .put-word-count .ensures) (c .put-block .ensures .wrote _ (p .body-is)))
 
@@ -486,8 +486,8 @@ put-cases-put-opt-place-block-requires t c κs =
     let r₀ = room-of (c .pre .room) (kcons (c .index-case .result .now .test) (p .body) (p .rest)) (p .is) in
     room-first _ _ r₀
 
-pub put-cases-put-alt-next-requires : need.put-cases-put-alt-next-requires
-put-cases-put-alt-next-requires t c κs =
+pub put-cases-put-opt-block-next-requires : need.put-cases-put-opt-block-next-requires
+put-cases-put-opt-block-next-requires t c κs =
     let p = cases-parts (slots (c .args .arena .now)) (top-value (value-slots (c .args .arena .now .inner))) (block-in (c .args .depth) (c .args .arena .now)) (c .args .start) (c .args .count) (c .index-case .result .now) (c .pre .room .what) (omega (arith, c .pre .within, c .args .arena .now .cases .ok .0)) (c .if-count-eq0 .left) (c .index-case .ensures) (c .pre .room .stands) in
     let r₀ = room-of (c .pre .room) (kcons (c .index-case .result .now .test) (p .body) (p .rest)) (p .is) in
     let r₁ = room-rest _ (c .put-opt-place-block .ensures) r₀ in
@@ -498,36 +498,36 @@ put-cases-put-cases-requires t c κs =
     let p = cases-parts (slots (c .args .arena .now)) (top-value (value-slots (c .args .arena .now .inner))) (block-in (c .args .depth) (c .args .arena .now)) (c .args .start) (c .args .count) (c .index-case .result .now) (c .pre .room .what) (omega (arith, c .pre .within, c .args .arena .now .cases .ok .0)) (c .if-count-eq0 .left) (c .index-case .ensures) (c .pre .room .stands) in
     let r₀ = room-of (c .pre .room) (kcons (c .index-case .result .now .test) (p .body) (p .rest)) (p .is) in
     let r₁ = room-rest _ (c .put-opt-place-block .ensures) r₀ in
-    let r₂ = room-rest _ (c .put-alt-next .ensures .wrote _ (p .body-is)) r₁ in
+    let r₂ = room-rest _ (c .put-opt-block-next .ensures .wrote _ (p .body-is)) r₁ in
     (omega arith, (omega arith, writable cases-words (p .rest-are) r₂))
 
 pub put-cases-returns : need.put-cases-returns
 put-cases-returns t c =
     let p = cases-parts (slots (c .args .arena .now)) (top-value (value-slots (c .args .arena .now .inner))) (block-in (c .args .depth) (c .args .arena .now)) (c .args .start) (c .args .count) (c .index-case .result .now) (c .pre .room .what) (omega (arith, c .pre .within, c .args .arena .now .cases .ok .0)) (c .if-count-eq0 .left) (c .index-case .ensures) (c .pre .room .stands) in
-    written (c .pre .room) (kcons (c .index-case .result .now .test) (p .body) (p .rest)) (p .is) (wrote-more (c .put-opt-place-block .ensures) (wrote-more (c .put-alt-next .ensures .wrote _ (p .body-is)) (c .put-cases .ensures .wrote _ (p .rest-are))))
+    written (c .pre .room) (kcons (c .index-case .result .now .test) (p .body) (p .rest)) (p .is) (wrote-more (c .put-opt-place-block .ensures) (wrote-more (c .put-opt-block-next .ensures .wrote _ (p .body-is)) (c .put-cases .ensures .wrote _ (p .rest-are))))
 
-pub put-stmts-returns-then-count-eq0 : need.put-stmts-returns-then-count-eq0
-put-stmts-returns-then-count-eq0 t c =
+pub put-statements-returns-then-count-eq0 : need.put-statements-returns-then-count-eq0
+put-statements-returns-then-count-eq0 t c =
     let none = ap (λ n. body-in (c .args .depth) (c .args .arena .now) (c .args .start) n) (sym (c .if-count-eq0 .taken)) in
     written (c .pre .room) nil (some-some (none ∙ c .pre .room .stands)) (wrote-none (c .args .out .now) (c .args .at) (omega (arith, c .pre .room .room .fits)))
 
-pub put-stmts-put-stmt-next-requires : need.put-stmts-put-stmt-next-requires
-put-stmts-put-stmt-next-requires t c κs =
+pub put-statements-put-statement-next-requires : need.put-statements-put-statement-next-requires
+put-statements-put-statement-next-requires t c κs =
     let p = body-parts (slot-in (c .args .depth) (c .args .arena .now)) (vec-items (c .args .arena .now .entries)) (c .args .start) (c .args .count) (c .index-slot .result .now) (c .pre .room .what) (omega (arith, c .pre .within, c .args .arena .now .entries .ok .0)) (c .if-count-eq0 .left) (c .index-slot .ensures) (c .pre .room .stands) in
     let r₀ = room-of (c .pre .room) (cons (p .first) (p .rest)) (p .is) in
     (omega arith, writable stmt-words (p .first-is) (room-first _ _ r₀))
 
-pub put-stmts-put-stmts-requires : need.put-stmts-put-stmts-requires
-put-stmts-put-stmts-requires t c κs =
+pub put-statements-put-statements-requires : need.put-statements-put-statements-requires
+put-statements-put-statements-requires t c κs =
     let p = body-parts (slot-in (c .args .depth) (c .args .arena .now)) (vec-items (c .args .arena .now .entries)) (c .args .start) (c .args .count) (c .index-slot .result .now) (c .pre .room .what) (omega (arith, c .pre .within, c .args .arena .now .entries .ok .0)) (c .if-count-eq0 .left) (c .index-slot .ensures) (c .pre .room .stands) in
     let r₀ = room-of (c .pre .room) (cons (p .first) (p .rest)) (p .is) in
-    let r₁ = room-rest _ (c .put-stmt-next .ensures .wrote _ (p .first-is)) r₀ in
+    let r₁ = room-rest _ (c .put-statement-next .ensures .wrote _ (p .first-is)) r₀ in
     (omega arith, (omega arith, writable body-words (p .rest-are) r₁))
 
-pub put-stmts-returns : need.put-stmts-returns
-put-stmts-returns t c =
+pub put-statements-returns : need.put-statements-returns
+put-statements-returns t c =
     let p = body-parts (slot-in (c .args .depth) (c .args .arena .now)) (vec-items (c .args .arena .now .entries)) (c .args .start) (c .args .count) (c .index-slot .result .now) (c .pre .room .what) (omega (arith, c .pre .within, c .args .arena .now .entries .ok .0)) (c .if-count-eq0 .left) (c .index-slot .ensures) (c .pre .room .stands) in
-    written (c .pre .room) (cons (p .first) (p .rest)) (p .is) (wrote-more (c .put-stmt-next .ensures .wrote _ (p .first-is)) (c .put-stmts .ensures .wrote _ (p .rest-are)))
+    written (c .pre .room) (cons (p .first) (p .rest)) (p .is) (wrote-more (c .put-statement-next .ensures .wrote _ (p .first-is)) (c .put-statements .ensures .wrote _ (p .rest-are)))
 
 pub put-block-sub-depth : need.put-block-sub-depth
 put-block-sub-depth t c =
@@ -540,8 +540,8 @@ put-block-put-word-first-requires t c κs =
     let r₀ = room-of (c .pre) (c .pre .what) (refl) in
     room-word r₀
 
-pub put-block-put-stmts-requires : need.put-block-put-stmts-requires
-put-block-put-stmts-requires t c κs =
+pub put-block-put-statements-requires : need.put-block-put-statements-requires
+put-block-put-statements-requires t c κs =
     let p = block-parts (c .args .depth) (slots (c .args .arena .now)) (c .args .block) (c .pre .what) (c .pre .stands) in
     let r₀ = room-of (c .pre) (c .pre .what) (refl) in
     let r₁ = room-rest _ (word-as (sym (p .count-is)) (c .put-word-first .ensures)) r₀ in
@@ -550,189 +550,189 @@ put-block-put-stmts-requires t c κs =
 pub put-block-returns : need.put-block-returns
 put-block-returns t c =
     let p = block-parts (c .args .depth) (slots (c .args .arena .now)) (c .args .block) (c .pre .what) (c .pre .stands) in
-    written (c .pre) (c .pre .what) (refl) (wrote-more (word-as (sym (p .count-is)) (c .put-word-first .ensures)) (c .put-stmts .ensures .wrote _ (p .body)))
+    written (c .pre) (c .pre .what) (refl) (wrote-more (word-as (sym (p .count-is)) (c .put-word-first .ensures)) (c .put-statements .ensures .wrote _ (p .body)))
 
-pub put-stmt-index-requires : need.put-stmt-index-requires
-put-stmt-index-requires t c κs = omega (arith, statement-at (c .args .depth) (c .args .arena .now) (c .args .slot) (c .pre) .inside, c .args .arena .now .statements .ok .0)
+pub put-statement-index-requires : need.put-statement-index-requires
+put-statement-index-requires t c κs = omega (arith, statement-at (c .args .depth) (c .args .arena .now) (c .args .slot) (c .pre) .inside, c .args .arena .now .statements .ok .0)
 
-pub put-stmt-put-word-next-requires : need.put-stmt-put-word-next-requires
-put-stmt-put-word-next-requires t c κs =
+pub put-statement-put-word-next-requires : need.put-statement-put-word-next-requires
+put-statement-put-word-next-requires t c κs =
     let n = statement-node (c .args .depth) (c .args .arena .now) (c .args .slot) (c .pre) (c .index .result .now) _ (c .index .ensures) (c .in-Instruction .is) in
     let p = instruction-parts (slots (c .args .arena .now)) (top-value (value-slots (c .args .arena .now .inner))) (block-in (c .args .depth) (c .args .arena .now)) (c .in-Instruction .instruction) (c .pre .what) n in
     room-word (room-of (c .pre) (instruction (p .one)) (p .is))
 
-pub put-stmt-put-instruction-requires : need.put-stmt-put-instruction-requires
-put-stmt-put-instruction-requires t c κs =
+pub put-statement-put-instruction-requires : need.put-statement-put-instruction-requires
+put-statement-put-instruction-requires t c κs =
     let n = statement-node (c .args .depth) (c .args .arena .now) (c .args .slot) (c .pre) (c .index .result .now) _ (c .index .ensures) (c .in-Instruction .is) in
     let p = instruction-parts (slots (c .args .arena .now)) (top-value (value-slots (c .args .arena .now .inner))) (block-in (c .args .depth) (c .args .arena .now)) (c .in-Instruction .instruction) (c .pre .what) n in
     writable instr-words (p .one-is) (room-rest _ (c .put-word-next .ensures) (room-of (c .pre) (instruction (p .one)) (p .is)))
 
-pub put-stmt-returns-in-Instruction : need.put-stmt-returns-in-Instruction
-put-stmt-returns-in-Instruction t c =
+pub put-statement-returns-in-Instruction : need.put-statement-returns-in-Instruction
+put-statement-returns-in-Instruction t c =
     let n = statement-node (c .args .depth) (c .args .arena .now) (c .args .slot) (c .pre) (c .index .result .now) _ (c .index .ensures) (c .in-Instruction .is) in
     let p = instruction-parts (slots (c .args .arena .now)) (top-value (value-slots (c .args .arena .now .inner))) (block-in (c .args .depth) (c .args .arena .now)) (c .in-Instruction .instruction) (c .pre .what) n in
     written (c .pre) (instruction (p .one)) (p .is) (wrote-more (c .put-word-next .ensures) (c .put-instruction .ensures .wrote _ (p .one-is)))
 
-pub put-stmt-put-terminal-requires : need.put-stmt-put-terminal-requires
-put-stmt-put-terminal-requires t c κs =
+pub put-statement-put-terminal-statement-requires : need.put-statement-put-terminal-statement-requires
+put-statement-put-terminal-statement-requires t c κs =
     let n = statement-node (c .args .depth) (c .args .arena .now) (c .args .slot) (c .pre) (c .index .result .now) _ (c .index .ensures) (c .in-Terminal .is) in
     (omega arith, writable stmt-words n (c .pre .room))
 
-pub put-stmt-returns-in-Terminal : need.put-stmt-returns-in-Terminal
-put-stmt-returns-in-Terminal t c =
+pub put-statement-returns-in-Terminal : need.put-statement-returns-in-Terminal
+put-statement-returns-in-Terminal t c =
     let n = statement-node (c .args .depth) (c .args .arena .now) (c .args .slot) (c .pre) (c .index .result .now) _ (c .index .ensures) (c .in-Terminal .is) in
-    written (c .pre) (c .pre .what) refl (c .put-terminal .ensures .wrote _ n)
+    written (c .pre) (c .pre .what) refl (c .put-terminal-statement .ensures .wrote _ n)
 
-pub put-stmt-put-scope-requires : need.put-stmt-put-scope-requires
-put-stmt-put-scope-requires t c κs =
+pub put-statement-put-scope-requires : need.put-statement-put-scope-requires
+put-statement-put-scope-requires t c κs =
     let n = statement-node (c .args .depth) (c .args .arena .now) (c .args .slot) (c .pre) (c .index .result .now) _ (c .index .ensures) (c .in-Scope .is) in
     let p = scope-parts (slots (c .args .arena .now)) (top-value (value-slots (c .args .arena .now .inner))) (block-in (c .args .depth) (c .args .arena .now)) (c .in-Scope .block) (c .pre .what) n in
     (omega arith, writable _ (p .body-is) (room-of (c .pre) (scope (c .in-Scope .block .scope) (p .body)) (p .is)))
 
-pub put-stmt-returns-in-Scope : need.put-stmt-returns-in-Scope
-put-stmt-returns-in-Scope t c =
+pub put-statement-returns-in-Scope : need.put-statement-returns-in-Scope
+put-statement-returns-in-Scope t c =
     let n = statement-node (c .args .depth) (c .args .arena .now) (c .args .slot) (c .pre) (c .index .result .now) _ (c .index .ensures) (c .in-Scope .is) in
     let p = scope-parts (slots (c .args .arena .now)) (top-value (value-slots (c .args .arena .now .inner))) (block-in (c .args .depth) (c .args .arena .now)) (c .in-Scope .block) (c .pre .what) n in
     written (c .pre) (scope (c .in-Scope .block .scope) (p .body)) (p .is) (c .put-scope .ensures .wrote _ (p .body-is))
 
-pub put-stmt-put-scope-requires-in-PrunedScope : need.put-stmt-put-scope-requires-in-PrunedScope
-put-stmt-put-scope-requires-in-PrunedScope t c κs =
+pub put-statement-put-scope-requires-in-PrunedScope : need.put-statement-put-scope-requires-in-PrunedScope
+put-statement-put-scope-requires-in-PrunedScope t c κs =
     let n = statement-node (c .args .depth) (c .args .arena .now) (c .args .slot) (c .pre) (c .index .result .now) _ (c .index .ensures) (c .in-PrunedScope .is) in
     let p = pruned-parts (slots (c .args .arena .now)) (top-value (value-slots (c .args .arena .now .inner))) (block-in (c .args .depth) (c .args .arena .now)) (c .in-PrunedScope .block) (c .pre .what) n in
     (omega arith, writable _ (p .body-is) (room-of (c .pre) (pruned (c .in-PrunedScope .block .scope) (p .body)) (p .is)))
 
-pub put-stmt-returns-in-PrunedScope : need.put-stmt-returns-in-PrunedScope
-put-stmt-returns-in-PrunedScope t c =
+pub put-statement-returns-in-PrunedScope : need.put-statement-returns-in-PrunedScope
+put-statement-returns-in-PrunedScope t c =
     let n = statement-node (c .args .depth) (c .args .arena .now) (c .args .slot) (c .pre) (c .index .result .now) _ (c .index .ensures) (c .in-PrunedScope .is) in
     let p = pruned-parts (slots (c .args .arena .now)) (top-value (value-slots (c .args .arena .now .inner))) (block-in (c .args .depth) (c .args .arena .now)) (c .in-PrunedScope .block) (c .pre .what) n in
     written (c .pre) (pruned (c .in-PrunedScope .block .scope) (p .body)) (p .is) (c .put-scope-in-PrunedScope .ensures .wrote _ (p .body-is))
 
-pub put-term-put-jump-requires : need.put-term-put-jump-requires
-put-term-put-jump-requires t c κs =
+pub put-terminal-put-jump-requires : need.put-terminal-put-jump-requires
+put-terminal-put-jump-requires t c κs =
     let n = sym (ap (terminal-in (c .args .depth) (c .args .arena .now)) (c .in-Break .is)) ∙ c .pre .stands in
     room-of (c .pre) (break (c .in-Break .target) (c .in-Break .id) (c .in-Break .target-kind)) (some-some n)
 
-pub put-term-returns-in-Break : need.put-term-returns-in-Break
-put-term-returns-in-Break t c =
+pub put-terminal-returns-in-Break : need.put-terminal-returns-in-Break
+put-terminal-returns-in-Break t c =
     let n = sym (ap (terminal-in (c .args .depth) (c .args .arena .now)) (c .in-Break .is)) ∙ c .pre .stands in
     written (c .pre) (break (c .in-Break .target) (c .in-Break .id) (c .in-Break .target-kind)) (some-some n) (c .put-jump .ensures)
 
-pub put-term-put-jump-requires-in-Continue : need.put-term-put-jump-requires-in-Continue
-put-term-put-jump-requires-in-Continue t c κs =
+pub put-terminal-put-jump-requires-in-Continue : need.put-terminal-put-jump-requires-in-Continue
+put-terminal-put-jump-requires-in-Continue t c κs =
     let n = sym (ap (terminal-in (c .args .depth) (c .args .arena .now)) (c .in-Continue .is)) ∙ c .pre .stands in
     room-of (c .pre) (continue (c .in-Continue .target) (c .in-Continue .id) (c .in-Continue .target-kind)) (some-some n)
 
-pub put-term-returns-in-Continue : need.put-term-returns-in-Continue
-put-term-returns-in-Continue t c =
+pub put-terminal-returns-in-Continue : need.put-terminal-returns-in-Continue
+put-terminal-returns-in-Continue t c =
     let n = sym (ap (terminal-in (c .args .depth) (c .args .arena .now)) (c .in-Continue .is)) ∙ c .pre .stands in
     written (c .pre) (continue (c .in-Continue .target) (c .in-Continue .id) (c .in-Continue .target-kind)) (some-some n) (c .put-jump-in-Continue .ensures)
 
-pub put-term-put-leave-requires : need.put-term-put-leave-requires
-put-term-put-leave-requires t c κs =
+pub put-terminal-put-leave-requires : need.put-terminal-put-leave-requires
+put-terminal-put-leave-requires t c κs =
     let n = sym (ap (terminal-in (c .args .depth) (c .args .arena .now)) (c .in-Return .is)) ∙ c .pre .stands in
     room-of (c .pre) (return (c .in-Return .value) (c .in-Return .id)) (some-some n)
 
-pub put-term-returns-in-Return : need.put-term-returns-in-Return
-put-term-returns-in-Return t c =
+pub put-terminal-returns-in-Return : need.put-terminal-returns-in-Return
+put-terminal-returns-in-Return t c =
     let n = sym (ap (terminal-in (c .args .depth) (c .args .arena .now)) (c .in-Return .is)) ∙ c .pre .stands in
     written (c .pre) (return (c .in-Return .value) (c .in-Return .id)) (some-some n) (c .put-leave .ensures)
 
-pub put-term-put-leave-requires-in-Throw : need.put-term-put-leave-requires-in-Throw
-put-term-put-leave-requires-in-Throw t c κs =
+pub put-terminal-put-leave-requires-in-Throw : need.put-terminal-put-leave-requires-in-Throw
+put-terminal-put-leave-requires-in-Throw t c κs =
     let n = sym (ap (terminal-in (c .args .depth) (c .args .arena .now)) (c .in-Throw .is)) ∙ c .pre .stands in
     room-of (c .pre) (throw (c .in-Throw .value) (c .in-Throw .id)) (some-some n)
 
-pub put-term-returns-in-Throw : need.put-term-returns-in-Throw
-put-term-returns-in-Throw t c =
+pub put-terminal-returns-in-Throw : need.put-terminal-returns-in-Throw
+put-terminal-returns-in-Throw t c =
     let n = sym (ap (terminal-in (c .args .depth) (c .args .arena .now)) (c .in-Throw .is)) ∙ c .pre .stands in
     written (c .pre) (throw (c .in-Throw .value) (c .in-Throw .id)) (some-some n) (c .put-leave-in-Throw .ensures)
 
-pub put-term-put-switch-requires : need.put-term-put-switch-requires
-put-term-put-switch-requires t c κs =
+pub put-terminal-put-switch-requires : need.put-terminal-put-switch-requires
+put-terminal-put-switch-requires t c κs =
     let n = sym (ap (terminal-in (c .args .depth) (c .args .arena .now)) (c .in-Switch .is)) ∙ c .pre .stands in
     (omega arith, writable term-words n (c .pre .room))
 
-pub put-term-returns-in-Switch : need.put-term-returns-in-Switch
-put-term-returns-in-Switch t c =
+pub put-terminal-returns-in-Switch : need.put-terminal-returns-in-Switch
+put-terminal-returns-in-Switch t c =
     let n = sym (ap (terminal-in (c .args .depth) (c .args .arena .now)) (c .in-Switch .is)) ∙ c .pre .stands in
     written (c .pre) (c .pre .what) refl (c .put-switch .ensures .wrote _ n)
 
-pub put-term-put-do-while-requires : need.put-term-put-do-while-requires
-put-term-put-do-while-requires t c κs =
+pub put-terminal-put-do-while-requires : need.put-terminal-put-do-while-requires
+put-terminal-put-do-while-requires t c κs =
     let n = sym (ap (terminal-in (c .args .depth) (c .args .arena .now)) (c .in-DoWhile .is)) ∙ c .pre .stands in
     (omega arith, writable term-words n (c .pre .room))
 
-pub put-term-returns-in-DoWhile : need.put-term-returns-in-DoWhile
-put-term-returns-in-DoWhile t c =
+pub put-terminal-returns-in-DoWhile : need.put-terminal-returns-in-DoWhile
+put-terminal-returns-in-DoWhile t c =
     let n = sym (ap (terminal-in (c .args .depth) (c .args .arena .now)) (c .in-DoWhile .is)) ∙ c .pre .stands in
     written (c .pre) (c .pre .what) refl (c .put-do-while .ensures .wrote _ n)
 
-pub put-term-put-while-requires : need.put-term-put-while-requires
-put-term-put-while-requires t c κs =
+pub put-terminal-put-while-requires : need.put-terminal-put-while-requires
+put-terminal-put-while-requires t c κs =
     let n = sym (ap (terminal-in (c .args .depth) (c .args .arena .now)) (c .in-While .is)) ∙ c .pre .stands in
     (omega arith, writable term-words n (c .pre .room))
 
-pub put-term-returns-in-While : need.put-term-returns-in-While
-put-term-returns-in-While t c =
+pub put-terminal-returns-in-While : need.put-terminal-returns-in-While
+put-terminal-returns-in-While t c =
     let n = sym (ap (terminal-in (c .args .depth) (c .args .arena .now)) (c .in-While .is)) ∙ c .pre .stands in
     written (c .pre) (c .pre .what) refl (c .put-while .ensures .wrote _ n)
 
-pub put-term-put-for-requires : need.put-term-put-for-requires
-put-term-put-for-requires t c κs =
+pub put-terminal-put-for-requires : need.put-terminal-put-for-requires
+put-terminal-put-for-requires t c κs =
     let n = sym (ap (terminal-in (c .args .depth) (c .args .arena .now)) (c .in-For .is)) ∙ c .pre .stands in
     (omega arith, writable term-words n (c .pre .room))
 
-pub put-term-returns-in-For : need.put-term-returns-in-For
-put-term-returns-in-For t c =
+pub put-terminal-returns-in-For : need.put-terminal-returns-in-For
+put-terminal-returns-in-For t c =
     let n = sym (ap (terminal-in (c .args .depth) (c .args .arena .now)) (c .in-For .is)) ∙ c .pre .stands in
     written (c .pre) (c .pre .what) refl (c .put-for .ensures .wrote _ n)
 
-pub put-term-put-for-of-requires : need.put-term-put-for-of-requires
-put-term-put-for-of-requires t c κs =
+pub put-terminal-put-for-of-requires : need.put-terminal-put-for-of-requires
+put-terminal-put-for-of-requires t c κs =
     let n = sym (ap (terminal-in (c .args .depth) (c .args .arena .now)) (c .in-ForOf .is)) ∙ c .pre .stands in
     (omega arith, writable term-words n (c .pre .room))
 
-pub put-term-returns-in-ForOf : need.put-term-returns-in-ForOf
-put-term-returns-in-ForOf t c =
+pub put-terminal-returns-in-ForOf : need.put-terminal-returns-in-ForOf
+put-terminal-returns-in-ForOf t c =
     let n = sym (ap (terminal-in (c .args .depth) (c .args .arena .now)) (c .in-ForOf .is)) ∙ c .pre .stands in
     written (c .pre) (c .pre .what) refl (c .put-for-of .ensures .wrote _ n)
 
-pub put-term-put-for-in-requires : need.put-term-put-for-in-requires
-put-term-put-for-in-requires t c κs =
+pub put-terminal-put-for-in-requires : need.put-terminal-put-for-in-requires
+put-terminal-put-for-in-requires t c κs =
     let n = sym (ap (terminal-in (c .args .depth) (c .args .arena .now)) (c .in-ForIn .is)) ∙ c .pre .stands in
     (omega arith, writable term-words n (c .pre .room))
 
-pub put-term-returns-in-ForIn : need.put-term-returns-in-ForIn
-put-term-returns-in-ForIn t c =
+pub put-terminal-returns-in-ForIn : need.put-terminal-returns-in-ForIn
+put-terminal-returns-in-ForIn t c =
     let n = sym (ap (terminal-in (c .args .depth) (c .args .arena .now)) (c .in-ForIn .is)) ∙ c .pre .stands in
     written (c .pre) (c .pre .what) refl (c .put-for-in .ensures .wrote _ n)
 
-pub put-term-put-if-requires : need.put-term-put-if-requires
-put-term-put-if-requires t c κs =
+pub put-terminal-put-if-requires : need.put-terminal-put-if-requires
+put-terminal-put-if-requires t c κs =
     let n = sym (ap (terminal-in (c .args .depth) (c .args .arena .now)) (c .in-If .is)) ∙ c .pre .stands in
     (omega arith, writable term-words n (c .pre .room))
 
-pub put-term-returns-in-If : need.put-term-returns-in-If
-put-term-returns-in-If t c =
+pub put-terminal-returns-in-If : need.put-terminal-returns-in-If
+put-terminal-returns-in-If t c =
     let n = sym (ap (terminal-in (c .args .depth) (c .args .arena .now)) (c .in-If .is)) ∙ c .pre .stands in
     written (c .pre) (c .pre .what) refl (c .put-if .ensures .wrote _ n)
 
-pub put-term-put-labeled-requires : need.put-term-put-labeled-requires
-put-term-put-labeled-requires t c κs =
+pub put-terminal-put-labeled-requires : need.put-terminal-put-labeled-requires
+put-terminal-put-labeled-requires t c κs =
     let n = sym (ap (terminal-in (c .args .depth) (c .args .arena .now)) (c .in-Label .is)) ∙ c .pre .stands in
     (omega arith, writable term-words n (c .pre .room))
 
-pub put-term-returns-in-Label : need.put-term-returns-in-Label
-put-term-returns-in-Label t c =
+pub put-terminal-returns-in-Label : need.put-terminal-returns-in-Label
+put-terminal-returns-in-Label t c =
     let n = sym (ap (terminal-in (c .args .depth) (c .args .arena .now)) (c .in-Label .is)) ∙ c .pre .stands in
     written (c .pre) (c .pre .what) refl (c .put-labeled .ensures .wrote _ n)
 
-pub put-term-put-try-requires : need.put-term-put-try-requires
-put-term-put-try-requires t c κs =
+pub put-terminal-put-try-requires : need.put-terminal-put-try-requires
+put-terminal-put-try-requires t c κs =
     let n = sym (ap (terminal-in (c .args .depth) (c .args .arena .now)) (c .in-Try .is)) ∙ c .pre .stands in
     (omega arith, writable term-words n (c .pre .room))
 
-pub put-term-returns-in-Try : need.put-term-returns-in-Try
-put-term-returns-in-Try t c =
+pub put-terminal-returns-in-Try : need.put-terminal-returns-in-Try
+put-terminal-returns-in-Try t c =
     let n = sym (ap (terminal-in (c .args .depth) (c .args .arena .now)) (c .in-Try .is)) ∙ c .pre .stands in
     written (c .pre) (c .pre .what) refl (c .put-try .ensures .wrote _ n)
