@@ -1,0 +1,6 @@
+pub mod Arguments
+pub mod Number
+pub mod Refusal
+pub mod Said
+pub mod Store
+pub mod Unused
