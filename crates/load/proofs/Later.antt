@@ -15,7 +15,7 @@ use Rattle.hir.specs.Tree.{Term}
 use Rattle.hir.specs.Limits.{Within}
 use Rattle.hir.specs.Options.{nth}
 use Rattle.format.specs.declared.fault.FileFault.{FileFault}
-use Rattle.format.specs.Parse.{Cursor, Read, onto, give, next-of, word, below, order, chosen, case, flag, option, counted, begin-statement, begin-value, begin-place, begin-case, effects, place, payload, operators, targets, label-read, jump-read, leave-read}
+use Rattle.format.specs.Parse.{Cursor, Read, onto, give, next-of, word, below, order, chosen, case, flag, option, counted, begin-statement, begin-value, begin-place, begin-case, effects, place, payload, operators, targets, label-read, jump-read, leave-read, begin-identifier, begin-scope, begin-declaration, names, identifier, declaration, early-read}
 
 pub err-ok : {X : Type 0} {e : FileFault} {x : X} → Err e ≡ Ok x → ⊥
 err-ok h = let z : _≡_ {A = ℕ} 0 1 = cc in omega arith
@@ -172,3 +172,41 @@ jump-later make c = onto-later _ (word c) _ (word-later c) (λ l c₁. onto-late
 
 pub leave-later : (make : Place → ℕ → Term) → Later (leave-read make)
 leave-later make c = onto-later _ (place c) _ (place-later c) (λ p c₁. onto-later _ (order c₁) _ (order-later c₁) (λ i. give-later _))
+
+-- ---- the tables
+abbrev pub identifier-more : Used → Used
+identifier-more u = record { statements = u .statements; values = u .values; places = u .places; identifiers = u .identifiers + 1; scopes = u .scopes; declarations = u .declarations; cases = u .cases }
+
+abbrev pub scope-more : Used → Used
+scope-more u = record { statements = u .statements; values = u .values; places = u .places; identifiers = u .identifiers; scopes = u .scopes + 1; declarations = u .declarations; cases = u .cases }
+
+abbrev pub declaration-more : Used → Used
+declaration-more u = record { statements = u .statements; values = u .values; places = u .places; identifiers = u .identifiers; scopes = u .scopes; declarations = u .declarations + 1; cases = u .cases }
+
+identifier-begun : (c : Cursor) → From (identifier-more (c .used)) (begin-identifier c)
+identifier-begun c q e = within-is (counted-used _ _ c q e)
+
+pub scope-begun : (c : Cursor) → From (scope-more (c .used)) (begin-scope c)
+scope-begun c q e = within-is (counted-used _ _ c q e)
+
+declaration-begun : (c : Cursor) → From (declaration-more (c .used)) (begin-declaration c)
+declaration-begun c q e = within-is (counted-used _ _ c q e)
+
+names-later : Later (case names)
+names-later =
+    case-later names ((λ c. onto-later _ (word c) _ (word-later c) (λ n. give-later _)), ((λ c. onto-later _ (word c) _ (word-later c) (λ n. give-later _)), tt))
+
+pub identifier-counted : (c : Cursor) → From (identifier-more (c .used)) (identifier c)
+unfolding identifier
+identifier-counted c =
+    onto-later _ (begin-identifier c) _ (identifier-begun c) (λ _ c₁. onto-later _ (word c₁) _ (word-later c₁) (λ d c₂. onto-later _ (option (case names) c₂) _ (option-later (case names) names-later c₂) (λ n c₃.
+    onto-later _ (word c₃) _ (word-later c₃) (λ r c₄. onto-later _ (option word c₄) _ (option-later word word-later c₄) (λ s c₅. onto-later _ (word c₅) _ (word-later c₅) (λ k c₆. onto-later _ (word c₆) _ (word-later c₆) (λ p. give-later _)))))))
+
+pub declaration-counted : (c : Cursor) → From (declaration-more (c .used)) (declaration c)
+unfolding declaration
+declaration-counted c =
+    onto-later _ (begin-declaration c) _ (declaration-begun c) (λ _ c₁. onto-later _ (word c₁) _ (word-later c₁) (λ k c₂. onto-later _ (word c₂) _ (word-later c₂) (λ i c₃. onto-later _ (word c₃) _ (word-later c₃) (λ s. give-later _))))
+
+pub early-later : Later early-read
+early-later c =
+    onto-later _ (word c) _ (word-later c) (λ v c₁. onto-later _ (word c₁) _ (word-later c₁) (λ s c₂. onto-later _ (word c₂) _ (word-later c₂) (λ l. give-later _)))

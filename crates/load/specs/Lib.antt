@@ -1,3 +1,4 @@
 pub mod Reads
 pub mod Values
 pub mod Blocks
+pub mod Environments

@@ -1,9 +1,11 @@
 // Loads a function file into tables.
+pub mod add;
 pub mod begins;
 pub mod items;
 pub mod operations;
 pub mod read_block;
 pub mod read_jump;
+pub mod read_tables;
 pub mod read_top;
 pub mod read_value;
 pub mod reader;
