@@ -1,5 +1,5 @@
 -- What the parts of a decoded slot stand for, by the kinds of values, statements and terminals. Assumes nothing.
-use mathlib.Core.Path.{_≡_, refl, sym, ap, _∙_}
+use mathlib.Core.Path.{_≡_, sym, ap, _∙_}
 use mathlib.Core.Bool.{Bool}
 use mathlib.Core.List.{List, [], _∷_}
 use mathlib.Core.Logic.{_≢_}
@@ -7,7 +7,7 @@ use Prim.Native.Nat.{ℕ, zero, suc, _+_, _-_, _≤_, _<_}
 use native.Mathlib.Omega.{arith}
 use lib.ListN.{length, getD, take, drop}
 use Rattle.std.specs.declared.option.Option.{Option}
-use Rattle.std.specs.declared.option.Option.the-variants.{Some, None}
+use Rattle.std.specs.declared.option.Option.the-variants.{Some}
 use Rattle.hir.specs.declared.place.Place.{Place}
 use Rattle.hir.specs.declared.range.Range.{Range}
 use Rattle.hir.specs.declared.value.InstructionValue.{InstructionValue}
@@ -23,9 +23,9 @@ use Rattle.hir.specs.declared.terminal.ReactiveTerminal.the-variants.{Switch, 
 use Rattle.hir.specs.declared.terminal.ReactiveTerminalStatement.{ReactiveTerminalStatement}
 use Rattle.hir.specs.declared.terminal.ReactiveSwitchCase.{ReactiveSwitchCase}
 use Rattle.hir.specs.Options.{bind, nth, part}
-use Rattle.hir.specs.Decode.{ValueSlots, Slots, op-of, instr-of, instrs-of, val-of, value-of, top-value, opt-value-of, opt-block-of, cases-of, term-of, stmt-of, body-of, slot-of, block-of}
+use Rattle.hir.specs.Decode.{ValueSlots, Slots, op-of, instr-of, instrs-of, val-of, value-of, opt-value-of, opt-block-of, cases-of, term-of, stmt-of, body-of, slot-of, block-of}
 use Rattle.hir.specs.Encode.{instr-count, case-count, stmt-count}
-use Rattle.hir.specs.Tree.{Op, Val, operation, logical, conditional, sequence, optional, OptVal, someVal, Instr, instr, Instrs, inil, icons, Stmt, instruction, scope, pruned, terminal, Term, switch, doWhile, while, for, forOf, forIn, if, label, try, Cases, knil, kcons, OptBlock, someBlock, Block, nil, cons}
+use Rattle.hir.specs.Tree.{Op, Val, operation, logical, conditional, sequence, optional, OptVal, someVal, Instr, instr, Instrs, icons, Stmt, instruction, scope, pruned, terminal, Term, switch, doWhile, while, for, forOf, forIn, if, label, try, Cases, kcons, OptBlock, someBlock, Block, cons}
 use Rattle.hir.proofs.Bound.{none-some, some-some, bound, nth-within, nth-read, PartParts, part-parts, cut}
 
 -- ---- values

@@ -1,13 +1,13 @@
 -- The words of a list's items, as a loop writes them one by one. Assumes nothing.
-use mathlib.Core.Path.{_≡_, refl, sym, ap, ap₂, subst, _∙_}
+use mathlib.Core.Path.{_≡_, refl, sym, ap, subst, _∙_}
 use mathlib.Core.List.{List, [], _∷_, _++_, append-assoc, append-nil}
 use Prim.Native.Nat.{ℕ, _+_, _<_, _≤_}
-use native.Mathlib.Omega.{arith}
 use lib.ListN.{length, getD, take, drop, take-append-drop}
 use Rattle.std.proofs.shelf.Lists.{drop-more, take-more, take-all}
 use Rattle.hir.specs.Encode.{items-words}
 use Rattle.write.specs.Puts.{Room, Wrote}
-use Rattle.write.proofs.Lay.{wrote-more, wrote-as, room-first, room-rest}
+use Rattle.write.proofs.Lay.{wrote-more, wrote-as}
+use Rattle.write.proofs.Rooms.{room-first, room-rest}
 
 pub items-append : {X : Type 0} (words : X → List ℕ) (xs ys : List X) → items-words words (xs ++ ys) ≡ items-words words xs ++ items-words words ys
 items-append words [] ys = refl

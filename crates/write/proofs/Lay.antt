@@ -6,11 +6,8 @@ use native.Mathlib.Omega.{arith}
 use native.Mathlib.Nat.{add-zero}
 use lib.ListN.{length, take, drop, length-append, length-drop, take-append-drop}
 use Rattle.std.proofs.shelf.Lists.{drop-drop, take-at, drop-at, length-take-le}
-use Rattle.std.specs.declared.option.Option.{Option}
-use Rattle.std.specs.declared.option.Option.the-variants.{Some}
 use Rattle.format.specs.Words.{bytes}
-use Rattle.hir.proofs.Bound.{some-some}
-use Rattle.write.specs.Puts.{over, Room, Wrote, Writable, Written}
+use Rattle.write.specs.Puts.{over, Wrote}
 
 bytes-append : (ws vs : List ℕ) → bytes (ws ++ vs) ≡ bytes ws ++ bytes vs
 bytes-append [] vs = refl
@@ -90,35 +87,11 @@ wrote-before {o} {p} {q} {ws} {vs} {at} {r} w v =
       fits = omega (arith, long, w .fits);
     }
 
--- ---- room
-pub room-first : {o : List ℕ} {at : ℕ} (ws vs : List ℕ) → Room o at (ws ++ vs) → Room o at ws
-room-first ws vs r = record { fits = omega (arith, r .fits, length-append ws vs) }
-
-pub room-word : {o vs : List ℕ} {at w : ℕ} → Room o at (w ∷ vs) → 4 * (at + 1) ≤ length o
-room-word r = omega (arith, r .fits)
-
-pub room-rest : {o p ws : List ℕ} {at r : ℕ} (vs : List ℕ) → Wrote o p at ws r → Room o at (ws ++ vs) → Room p r vs
-room-rest {ws = ws} vs w h = record { fits = omega (arith, h .fits, length-append ws vs, w .to, wrote-length w) }
-
--- ---- what an optional result stands for
-pub room-of : {X : Type 0} {words : X → List ℕ} {x : Option X} {o : List ℕ} {at : ℕ} (w : Writable words x o at) (y : X) → y ≡ w .what → Room o at (words y)
-room-of {words = words} {o = o} {at = at} w y e = subst (λ z. Room o at (words z)) (sym e) (w .room)
-
-pub writable : {X : Type 0} (words : X → List ℕ) {x : Option X} {y : X} {o : List ℕ} {at : ℕ} → x ≡ Some y → Room o at (words y) → Writable words x o at
-writable words {y = y} e h = record { what = y; stands = e; room = h }
-
-pub written : {X : Type 0} {words : X → List ℕ} {x : Option X} {o p : List ℕ} {at r : ℕ} (w : Writable words x o at) (y : X) → y ≡ w .what → Wrote o p at (words y) r → Written words x o p at r
-written {words = words} {o = o} {p = p} {at = at} {r = r} w y e h =
-    record { wrote = λ z f. subst (λ v. Wrote o p at (words v) r) (e ∙ some-some (sym (w .stands) ∙ f)) h }
-
 pub wrote-as : {o p ws vs : List ℕ} {at r : ℕ} → ws ≡ vs → Wrote o p at ws r → Wrote o p at vs r
 wrote-as {o} {p} {at = at} {r = r} e h = subst (λ v. Wrote o p at v r) e h
 
 pub word-as : {o p : List ℕ} {w v : ℕ} {at r : ℕ} → w ≡ v → Wrote o p at (w ∷ []) r → Wrote o p at (v ∷ []) r
 word-as e h = wrote-as (ap (λ w. w ∷ []) e) h
-
-pub room-as : {o ws vs : List ℕ} {at : ℕ} → ws ≡ vs → Room o at ws → Room o at vs
-room-as {o} {at = at} e h = subst (λ v. Room o at v) e h
 
 -- under other names for the buffer after it and for the word after it
 pub wrote-to : {o p q ws : List ℕ} {at r s : ℕ} → q ≡ p → s ≡ r → Wrote o p at ws r → Wrote o q at ws s

@@ -1,6 +1,9 @@
 pub mod Lay
+pub mod Rooms
 pub mod Items
 pub mod Nodes
+pub mod Opened
 pub mod Rows
 pub mod Owned
+pub mod Scopes
 pub mod Sections

@@ -2,9 +2,9 @@
 use mathlib.Core.Path.{_≡_, refl, sym, ap, _∙_}
 use mathlib.Core.Bool.{true, cond}
 use mathlib.Core.List.{List, [], _∷_, _++_}
-use Prim.Native.Nat.{ℕ, _+_, _-_, _*_, _≤_}
+use Prim.Native.Nat.{ℕ, _+_, _-_}
 use native.Mathlib.Omega.{arith}
-use lib.ListN.{length, drop, length-append}
+use lib.ListN.{length, length-append}
 use Rattle.std.specs.Of.Vec.{vec-items}
 use Rattle.std.specs.Options.{isSome, valueOr}
 use Rattle.std.specs.declared.option.Option.{Option}
@@ -14,10 +14,8 @@ use Rattle.hir.specs.Decode.{root-of}
 use Rattle.hir.specs.Encode.{counters-words, identifier-words, scope-words, block-words, items-words, sections, encode}
 use Rattle.hir.specs.Held.{held, slots, scopes-from, body-held}
 use Rattle.hir.specs.Tables.{function-of}
-use Rattle.hir.specs.Tree.{Function, nil}
-use Rattle.hir.proofs.Bound.{none-some}
+use Rattle.hir.specs.Tree.{nil}
 use Rattle.write.specs.Puts.{Room, Wrote}
-use Rattle.write.specs.File.{Saved}
 use Rattle.write.proofs.Lay.{wrote-as, wrote-before}
 
 stands : {X : Type 0} (x : Option X) (d : X) → isSome x ≡ true → x ≡ Some (valueOr x d)

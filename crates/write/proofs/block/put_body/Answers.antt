@@ -1,7 +1,7 @@
 use mathlib.Core.Path.{refl}
 use Rattle.hir.specs.Decode.{root-of}
 use Rattle.hir.specs.Encode.{block-words}
-use Rattle.write.proofs.Lay.{writable, written}
+use Rattle.write.proofs.Rooms.{writable, written}
 use Rattle.write.proofs.block.put_body.Needs as need
 
 pub put-block-requires : need.put-block-requires

@@ -1,5 +1,5 @@
-use mathlib.Core.List.{[], _∷_, _++_}
-use Rattle.write.proofs.Lay.{wrote-more, room-word, room-first, room-rest}
+use Rattle.write.proofs.Lay.{wrote-more}
+use Rattle.write.proofs.Rooms.{room-word, room-first, room-rest}
 use Rattle.write.proofs.environment.put_identifier.Needs as need
 
 pub put-word-name-requires : need.put-word-name-requires

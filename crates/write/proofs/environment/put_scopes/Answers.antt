@@ -1,9 +1,9 @@
-use mathlib.Core.Path.{_≡_, refl}
+use mathlib.Core.Path.{refl}
 use native.Mathlib.Omega.{arith}
 use Rattle.hir.specs.Encode.{scope-words}
 use Rattle.write.proofs.Lay.{wrote-none}
 use Rattle.write.proofs.Items.{all-wrote}
-use Rattle.write.proofs.Owned.{scopes-length, scope-room, scope-wrote}
+use Rattle.write.proofs.Scopes.{scopes-length, scope-room, scope-wrote}
 use Rattle.write.proofs.environment.put_scopes.Needs as need
 
 pub loop-scope-holds : need.loop-scope-holds

@@ -1,10 +1,9 @@
-use mathlib.Core.Path.{_≡_, sym, ap, ap₂, _∙_}
-use mathlib.Core.List.{List, _++_}
+use mathlib.Core.Path.{sym, ap, ap₂}
 use native.Mathlib.Omega.{arith}
-use lib.ListN.{length}
 use Rattle.hir.specs.Encode.{items-words, identifier-words, scope-words, block-words}
 use Rattle.hir.specs.Held.{scopes-from}
-use Rattle.write.proofs.Lay.{wrote-length, wrote-more, wrote-as, room-as, room-first, room-rest, writable}
+use Rattle.write.proofs.Lay.{wrote-length, wrote-more, wrote-as}
+use Rattle.write.proofs.Rooms.{room-as, room-first, room-rest, writable}
 use Rattle.write.proofs.Sections.{body-stands, behind-room, Ends, whole, filed}
 use Rattle.write.proofs.file.put_file.Needs as need
 

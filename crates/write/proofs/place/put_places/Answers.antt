@@ -1,6 +1,7 @@
 use mathlib.Core.Path.{sym, ap}
 use Rattle.hir.specs.Encode.{place-words, items-words}
-use Rattle.write.proofs.Lay.{wrote-more, wrote-as, room-rest, room-as}
+use Rattle.write.proofs.Lay.{wrote-more, wrote-as}
+use Rattle.write.proofs.Rooms.{room-rest, room-as}
 use Rattle.write.proofs.place.put_places.Needs as need
 
 pub put-row-requires : need.put-row-requires

@@ -1,6 +1,5 @@
-use mathlib.Core.Path.{_≡_, refl, sym, ap, _∙_}
-use mathlib.Core.List.{[], _∷_, _++_}
-use Prim.Native.Nat.{ℕ, _+_, _-_, _*_, _≤_}
+use mathlib.Core.Path.{refl, sym, ap, _∙_}
+use Prim.Native.Nat.{_-_}
 use native.Mathlib.Omega.{arith}
 use lib.ListN.{take, drop}
 use Rattle.std.specs.Of.Vec.{vec-items}
@@ -10,7 +9,8 @@ use Rattle.hir.specs.Held.{value-slots}
 use Rattle.hir.specs.Tree.{operation, logical, conditional, sequence, optional, instr, inil, icons}
 use Rattle.hir.proofs.Bound.{some-some}
 use Rattle.hir.proofs.Parts.{operation-parts, logical-parts, conditional-parts, sequence-parts, optional-parts, instr-parts, instrs-parts}
-use Rattle.write.proofs.Lay.{wrote-none, wrote-more, word-as, room-word, room-first, room-rest, room-of, writable, written}
+use Rattle.write.proofs.Lay.{wrote-none, wrote-more, word-as}
+use Rattle.write.proofs.Rooms.{room-word, room-first, room-rest, room-of, writable, written}
 use Rattle.write.proofs.Nodes.{value-at, value-node}
 use Rattle.write.proofs.value.+put_conditional+put_instr+put_instrs+put_logical+put_optional+put_sequence+put_value.Needs as need
 

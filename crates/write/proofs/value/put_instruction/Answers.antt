@@ -1,7 +1,7 @@
 use mathlib.Core.Path.{refl}
 use Rattle.hir.specs.Decode.{top-value}
 use Rattle.hir.specs.Encode.{instr-words}
-use Rattle.write.proofs.Lay.{writable, written}
+use Rattle.write.proofs.Rooms.{writable, written}
 use Rattle.write.proofs.value.put_instruction.Needs as need
 
 pub put-instr-requires : need.put-instr-requires

@@ -1,9 +1,9 @@
-use mathlib.Core.Path.{_≡_, sym, ap}
-use mathlib.Core.List.{[], _∷_, _++_}
+use mathlib.Core.Path.{sym, ap}
 use Rattle.hir.specs.Encode.{op-words}
 use Rattle.hir.specs.Held.{value-slots}
 use Rattle.hir.proofs.Parts.{op-parts}
-use Rattle.write.proofs.Lay.{wrote-more, wrote-as, room-as, room-word, room-first, room-rest, written}
+use Rattle.write.proofs.Lay.{wrote-more, wrote-as}
+use Rattle.write.proofs.Rooms.{room-as, room-word, room-first, room-rest, written}
 use Rattle.write.proofs.Rows.{row-within, row-words}
 use Rattle.write.proofs.value.put_op.Needs as need
 

@@ -1,9 +1,10 @@
-use mathlib.Core.Path.{_≡_, sym, ap, _∙_}
+use mathlib.Core.Path.{sym, ap, _∙_}
 use Rattle.hir.specs.Decode.{top-value, opt-value-of}
 use Rattle.hir.specs.Held.{value-slots}
 use Rattle.hir.specs.Tree.{someVal}
 use Rattle.hir.proofs.Parts.{some-value-parts}
-use Rattle.write.proofs.Lay.{wrote-more, written}
+use Rattle.write.proofs.Lay.{wrote-more}
+use Rattle.write.proofs.Rooms.{written}
 use Rattle.write.proofs.value.put_opt_top.Needs as need
 
 pub returns-in-Some : need.returns-in-Some
