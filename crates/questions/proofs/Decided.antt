@@ -1,5 +1,5 @@
 -- From what the pass found to the answer: the first question with a no, and the first of its faulty places.
-use mathlib.Core.Bool.{Bool, true, false, cond, _&&_, _||_}
+use mathlib.Core.Bool.{Bool, true, false, cond, _&&_}
 use mathlib.Core.List.{List, [], _∷_, _++_}
 use mathlib.Core.Path.{_≡_, refl, sym, ap, subst, _∙_}
 use Prim.Native.Nat.{ℕ, _+_, _≤_}
@@ -8,16 +8,14 @@ use lib.Dec.{eqb}
 use lib.ListN.{length, replicate}
 use Rattle.std.proofs.shelf.Tests.{or-left, eq-eqb}
 use Rattle.std.specs.declared.option.Option.{Option}
-use Rattle.std.specs.declared.option.Option.the-variants.{Some, None}
+use Rattle.std.specs.declared.option.Option.the-variants.{None}
 use Rattle.std.specs.declared.result.Result.{Result}
 use Rattle.std.specs.declared.result.Result.the-variants.{Ok, Err}
 use Rattle.format.specs.declared.fault.CheckFault.{CheckFault}
 use Rattle.format.specs.declared.fault.CheckFault.the-variants.{Numbers, Shapes, Targets, Scopes}
 use Rattle.hir.specs.Tree.{Function, ScopeInfo}
-use Rattle.semantics.specs.Targets.{nowhere}
 use Rattle.questions.specs.declared.line.Findings.{Findings}
-use Rattle.questions.specs.declared.line.Line.{Line}
-use Rattle.questions.specs.Answers.{Sound, Faulty, Answers, unless, answer-of}
+use Rattle.questions.specs.Answers.{Faulty, Answers, unless, answer-of}
 use Rattle.questions.specs.Pass.{notes, passed, nothing}
 use Rattle.questions.specs.Questions.{every, among, bounds-of, identifier-in, scope-in, unrecorded, failing, repeating, table-fault, lines, out-of-range, out-of-shape, without-target, scoped-twice}
 use Rattle.questions.proofs.Claims.{no-marks, first-repeating}

@@ -1,15 +1,15 @@
 -- The first no to a question is the first of its faulty places.
-use mathlib.Core.Bool.{Bool, true, false, cond, not, _||_}
+use mathlib.Core.Bool.{Bool, true, false, cond}
 use mathlib.Core.List.{List, [], _∷_}
-use mathlib.Core.Path.{_≡_, refl, sym, ap, ap₂, _∙_}
-use Prim.Native.Nat.{ℕ, suc, _+_, _%_, _≤_, _<_}
+use mathlib.Core.Path.{_≡_, refl, ap₂, _∙_}
+use Prim.Native.Nat.{ℕ, suc, _+_, _%_, _≤_}
 use native.Mathlib.Omega.{arith}
 use lib.ListN.{length}
 use Rattle.std.specs.declared.option.Option.{Option}
 use Rattle.std.specs.declared.option.Option.the-variants.{Some, None}
 use Rattle.questions.specs.declared.line.Findings.{Findings}
 use Rattle.questions.specs.declared.line.Line.{Line}
-use Rattle.questions.specs.Pass.{earliest, noted, fresh-line, marked, Notes, notes, step, passed}
+use Rattle.questions.specs.Pass.{earliest, noted, fresh-line, marked, Notes, notes, passed}
 use Rattle.questions.specs.Questions.{failing}
 
 -- what was found earlier, or else the first of a list

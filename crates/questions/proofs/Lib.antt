@@ -7,7 +7,6 @@ pub mod Optional
 pub mod Stacked
 pub mod TermParts
 pub mod BlockRow
-pub mod CaseRow
 pub mod StatementParts
 pub mod Found
 pub mod LinesOf

@@ -1,13 +1,13 @@
 -- A value or a block that may be missing: what holds where it is there.
 use mathlib.Core.Bool.{Bool}
 use mathlib.Core.List.{List}
-use mathlib.Core.Path.{_≡_, refl, sym, ap, _∙_}
+use mathlib.Core.Path.{_≡_, sym, ap, _∙_}
 use Prim.Native.Nat.{ℕ}
 use Rattle.std.specs.declared.option.Option.{Option}
 use Rattle.std.specs.declared.option.Option.the-variants.{Some, None}
 use Rattle.hir.specs.declared.range.Range.{Range}
 use Rattle.hir.specs.Decode.{opt-value-of, opt-block-of}
-use Rattle.hir.specs.Tree.{Val, OptVal, noVal, someVal, Block, OptBlock, noBlock, someBlock}
+use Rattle.hir.specs.Tree.{Val, OptVal, someVal, Block, OptBlock, noBlock, someBlock}
 use Rattle.semantics.specs.Targets.{Around}
 use Rattle.questions.specs.declared.line.Bounds.{Bounds}
 use Rattle.questions.specs.declared.line.Findings.{Findings}

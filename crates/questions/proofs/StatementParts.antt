@@ -1,7 +1,7 @@
 -- What a statement's slot stands for, and its lines by its parts.
 use mathlib.Core.Bool.{Bool, true, _&&_}
-use mathlib.Core.List.{List, [], _∷_, _++_}
-use mathlib.Core.Path.{_≡_, refl, sym, ap, ap₂, subst, _∙_}
+use mathlib.Core.List.{List, _++_}
+use mathlib.Core.Path.{_≡_, sym, ap, ap₂, subst, _∙_}
 use Prim.Native.Nat.{ℕ, _<_}
 use lib.ListN.{length, getD}
 use Rattle.std.specs.declared.option.Option.{Option}
@@ -25,13 +25,13 @@ use Rattle.questions.specs.declared.line.Line.{Line}
 use Rattle.questions.specs.declared.operations.Own.{Own}
 use Rattle.questions.specs.declared.parts.Parts.{Parts}
 use Rattle.questions.specs.Around.{inside-of}
-use Rattle.questions.specs.Own.{own-of, Decodes}
+use Rattle.questions.specs.Own.{own-of}
 use Rattle.questions.specs.Parts.{parts-of, values-ops, values-lines, row-cases, parts-line, OwnValues, PassedValues}
-use Rattle.questions.specs.Pass.{notes, noted, passed, claimed, unclaimed, Inner, Outer}
-use Rattle.questions.specs.Questions.{label-in, term-in, ops-in, in-shape, term-ops, term-aims, term-line, term-lines, scope-line, instr-lines, stmt-lines, block-lines, opt-block-lines, cases-lines}
+use Rattle.questions.specs.Pass.{notes, noted, passed, claimed, unclaimed, Outer}
+use Rattle.questions.specs.Questions.{label-in, term-in, ops-in, in-shape, term-ops, term-aims, term-line, term-lines, scope-line, stmt-lines, block-lines, opt-block-lines, cases-lines}
 use Rattle.questions.specs.Rows.{labelled-lines}
-use Rattle.questions.proofs.Passing.{pass-then}
-use Rattle.questions.proofs.Slots.{none-some, some-some, bound, nth-entry}
+use Rattle.questions.proofs.Row.{pass-then}
+use Rattle.questions.proofs.Slots.{some-some, bound, nth-entry}
 use Rattle.questions.proofs.TermParts.{TermParts, term-parts}
 
 module _ (a : Slots) (block : Range → Option Block) (k : ℕ) (s : Stmt) (e : slot-of a block k ≡ Some s) where

@@ -1,9 +1,9 @@
 -- A terminal by its parts: they decode where it does, and its answers and lines are theirs, one part after another.
-use mathlib.Core.Bool.{Bool, true, false, cond, _&&_}
+use mathlib.Core.Bool.{cond, _&&_}
 use mathlib.Core.List.{List, [], _∷_, _++_, append-nil, append-assoc}
 use mathlib.Core.Path.{_≡_, refl, sym, ap, ap₂, subst, _∙_}
-use Prim.Native.Nat.{ℕ, _+_, _≤_}
-use lib.Dec.{leb, leb·zero}
+use Prim.Native.Nat.{ℕ, _+_}
+use lib.Dec.{leb·zero}
 use lib.ListN.{length, take, drop}
 use Rattle.std.specs.declared.option.Option.{Option}
 use Rattle.std.specs.declared.option.Option.the-variants.{Some, None}
@@ -15,15 +15,15 @@ use Rattle.hir.specs.declared.terminal.ReactiveTerminalTargetKind.{ReactiveTerm
 use Rattle.hir.specs.declared.terminal.ReactiveTerminal.{ReactiveTerminal}
 use Rattle.hir.specs.declared.terminal.ReactiveTerminal.the-variants as R
 use Rattle.hir.specs.Options.{bind, part}
-use Rattle.hir.specs.Decode.{ValueSlots, Slots, top-value, opt-value-of, opt-block-of, cases-of, term-of}
-use Rattle.hir.specs.Tree.{Val, OptVal, noVal, someVal, Term, break, continue, return, throw, switch, doWhile, while, for, forOf, forIn, if, label, try, Cases, knil, kcons, OptBlock, noBlock, someBlock, Block}
+use Rattle.hir.specs.Decode.{Slots, top-value, opt-value-of, opt-block-of, cases-of, term-of}
+use Rattle.hir.specs.Tree.{Val, OptVal, noVal, someVal, Term, break, continue, return, throw, switch, doWhile, while, for, forOf, forIn, if, label, try, Cases, knil, OptBlock, noBlock, someBlock, Block}
 use Rattle.semantics.specs.Targets.{Around, mark, mark-inside, labelled, inLoop}
 use Rattle.questions.specs.declared.line.Bounds.{Bounds}
 use Rattle.questions.specs.declared.parts.Parts.{Parts}
 use Rattle.questions.specs.Around.{inside-of, jump-aims, jump-in}
 use Rattle.questions.specs.Own.{Decodes}
 use Rattle.questions.specs.Parts.{parts-of, ValuesIn, values-ops, values-lines, row-cases, tests-well}
-use Rattle.questions.specs.Questions.{every, opt-place-in, tests-in, term-in, term-ops, term-aims, term-lines, val-ops, val-lines, opt-val-lines, block-lines, opt-block-lines, cases-lines}
+use Rattle.questions.specs.Questions.{opt-place-in, tests-in, term-in, term-ops, term-aims, term-lines, val-ops, val-lines, opt-val-lines, block-lines, opt-block-lines, cases-lines}
 use Rattle.questions.proofs.Slots.{some-some, bound, part-row}
 use Rattle.questions.proofs.ValueParts.{and-true}
 

@@ -7,18 +7,16 @@ use Prim.Native.Nat.{ℕ, zero, suc, _+_, _-_, _≤_, _<_}
 use native.Mathlib.Omega.{arith}
 use lib.ListN.{length, getD, take, drop, length-drop}
 use Rattle.std.proofs.shelf.Lists.{length-take-le}
-use Rattle.std.specs.declared.option.Option.{Option}
-use Rattle.std.specs.declared.option.Option.the-variants.{Some, None}
+use Rattle.std.specs.declared.option.Option.the-variants.{Some}
 use Rattle.hir.specs.declared.place.Place.{Place}
 use Rattle.hir.specs.declared.range.Range.{Range}
 use Rattle.hir.specs.declared.value.LogicalOperator.{LogicalOperator}
 use Rattle.hir.specs.declared.value.InstructionValue.{InstructionValue}
-use Rattle.hir.specs.declared.value.ReactiveInstruction.{ReactiveInstruction}
 use Rattle.hir.specs.declared.value.ReactiveValue.{ReactiveValue}
 use Rattle.hir.specs.declared.value.ReactiveValue.the-variants.{Instruction, LogicalExpression, ConditionalExpression, SequenceExpression, OptionalExpression}
 use Rattle.hir.specs.Options.{bind, nth, part}
-use Rattle.hir.specs.Decode.{ValueSlots, op-of, instr-of, instrs-of, val-of, value-of}
-use Rattle.hir.specs.Tree.{Op, Val, operation, logical, conditional, sequence, optional, Instr, instr, Instrs}
+use Rattle.hir.specs.Decode.{ValueSlots, op-of, instrs-of, val-of, value-of}
+use Rattle.hir.specs.Tree.{Op, Val, operation, logical, conditional, sequence, optional, Instrs}
 use Rattle.questions.specs.declared.line.Bounds.{Bounds}
 use Rattle.questions.specs.Questions.{every, place-in, ops-in, writes-well, reads-well, in-shape}
 use Rattle.questions.specs.Own.{own-of, both-own}

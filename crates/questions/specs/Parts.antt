@@ -1,5 +1,5 @@
 -- The parts of each terminal, and what a terminal's answers and lines are by its parts. Assumes nothing.
-use mathlib.Core.Bool.{Bool, true, _&&_}
+use mathlib.Core.Bool.{Bool, _&&_}
 use mathlib.Core.List.{List, _++_}
 use mathlib.Core.Path.{_≡_}
 use Prim.Native.Nat.{ℕ}
@@ -15,7 +15,6 @@ use Rattle.hir.specs.declared.terminal.ReactiveTerminal.the-variants as R
 use Rattle.hir.specs.Decode.{ValueSlots, Slots, top-value, opt-value-of}
 use Rattle.hir.specs.Tree.{Op}
 use Rattle.semantics.specs.Targets.{Around}
-use Rattle.questions.specs.declared.around.Inside.{Inside}
 use Rattle.questions.specs.declared.around.Inside.the-variants.{Plain, Switch, Loop}
 use Rattle.questions.specs.declared.around.Jump.{Jump}
 use Rattle.questions.specs.declared.around.Jump.the-variants.{Nowhere, Break, Continue}

@@ -3,8 +3,7 @@ use mathlib.Core.Bool.{Bool, true, false, cond, not}
 use mathlib.Core.List.{List, [], _∷_}
 use mathlib.Core.Path.{_≡_}
 use Prim.Native.Nat.{ℕ, _+_, _%_}
-use lib.Dec.{ltb}
-use lib.ListN.{length, getD, set}
+use lib.ListN.{getD, set}
 use Rattle.std.specs.declared.option.Option.{Option}
 use Rattle.std.specs.declared.option.Option.the-variants.{Some, None}
 use Rattle.questions.specs.declared.line.Findings.{Findings}

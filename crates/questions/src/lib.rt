@@ -2,7 +2,6 @@
 ghost use mathlib.Core.Bool.{true, false};
 ghost use mathlib.Core.Path.{_≡_};
 ghost use Prim.Native.Nat.{_≤_};
-ghost use lib.ListN.{replicate};
 ghost use Rattle.std.specs.Options.{isSome};
 ghost use Rattle.hir.specs.Decode.{root-of};
 ghost use Rattle.hir.specs.Held.{held, slots};

@@ -1,11 +1,9 @@
 // The operations of a statement: the numbers of their places, and how many their kinds ask.
 ghost use mathlib.Core.Path.{_≡_};
 ghost use mathlib.Core.List.{[], _∷_};
-ghost use Prim.Native.Nat.{_+_, _≤_};
-ghost use lib.ListN.{length, take, drop};
-ghost use Rattle.std.specs.Of.Vec.{vec-items, vec-len};
+ghost use Prim.Native.Nat.{_+_};
 ghost use Rattle.std.specs.declared.option.Option.the-variants.{Some};
-ghost use Rattle.hir.specs.Decode.{op-of, value-of, top-value};
+ghost use Rattle.hir.specs.Decode.{op-of, value-of};
 ghost use Rattle.hir.specs.Held.{value-slots};
 ghost use Rattle.questions.specs.Questions.{every, place-in, opt-place-in, writes-well, reads-well, val-ops};
 ghost use Rattle.questions.specs.Own.{own-of, both-own, Decodes, Same};

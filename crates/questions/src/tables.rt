@@ -1,7 +1,5 @@
 // The numbers in the tables: identifiers, scopes with their records, and declarations.
 ghost use mathlib.Core.Path.{_≡_};
-ghost use lib.ListN.{length};
-ghost use Rattle.std.specs.Of.Vec.{vec-items};
 ghost use Rattle.questions.specs.Questions.{every, identifier-in, early-in, declaration-in, unrecorded, opt-below};
 ghost use Rattle.questions.specs.Tables.{declared-in, bounds-in, tables-in};
 use crate::line::Bounds;

@@ -1,13 +1,10 @@
 // What a terminal has of its own, and the values inside it.
 ghost use mathlib.Core.Path.{_≡_};
-ghost use mathlib.Core.List.{_++_};
 ghost use Prim.Native.Nat.{_+_, _≤_};
-ghost use lib.ListN.{take, drop};
-ghost use Rattle.std.specs.Of.Vec.{vec-items, vec-len};
+ghost use Rattle.std.specs.Of.Vec.{vec-len};
 ghost use Rattle.hir.specs.Held.{slots, value-slots};
 ghost use Rattle.questions.specs.Around.{around-of, Room};
-ghost use Rattle.questions.specs.Own.{own-of};
-ghost use Rattle.questions.specs.Parts.{ValuesIn, values-ops, values-lines, tests-well, row-cases, parts-line, OwnValues, PassedValues};
+ghost use Rattle.questions.specs.Parts.{ValuesIn, tests-well, row-cases, parts-line, OwnValues, PassedValues};
 ghost use Rattle.questions.specs.Questions.{label-in};
 use crate::around::Around;
 use crate::around::jump_well;

@@ -1,9 +1,8 @@
 // The instructions inside values, which are statements, in file order.
 ghost use mathlib.Core.Path.{_≡_};
-ghost use lib.ListN.{take, drop};
 ghost use Rattle.hir.specs.Decode.{instr-of, value-of, top-value, opt-value-of};
 ghost use Rattle.hir.specs.Held.{value-slots};
-ghost use Rattle.questions.specs.Questions.{instr-line, instr-lines, instrs-lines, val-lines, opt-val-lines, opt-val-ops};
+ghost use Rattle.questions.specs.Questions.{instr-lines, instrs-lines, val-lines, opt-val-lines, opt-val-ops};
 ghost use Rattle.questions.specs.Own.{Decodes, Same, own-line, own-of};
 ghost use Rattle.questions.specs.Pass.{Inner};
 ghost use Rattle.questions.specs.Rows.{instrs-in};

@@ -1,4 +1,4 @@
-use mathlib.Core.Path.{_≡_, sym, ap, subst, _∙_}
+use mathlib.Core.Path.{sym, ap, subst, _∙_}
 use lib.ListN.{replicate}
 use mathlib.Core.Bool.{false}
 use Rattle.hir.specs.Decode.{root-of}

@@ -1,41 +1,50 @@
-use mathlib.Core.Path.{_≡_, refl, sym, ap, ap₂, _∙_}
-use mathlib.Core.List.{[], _∷_, _++_}
-use Prim.Native.Nat.{_+_, _-_, _<_}
+use mathlib.Core.Path.{sym, ap, _∙_}
+use Prim.Native.Nat.{_-_}
 use native.Mathlib.Omega.{arith}
-use Rattle.hir.specs.Decode.{block-of}
+use Rattle.hir.specs.declared.terminal.ReactiveSwitchCase.{ReactiveSwitchCase}
+use Rattle.hir.specs.Decode.{slot-of, body-of, opt-block-of, cases-of, block-of}
 use Rattle.hir.specs.Held.{slots}
 use Rattle.questions.specs.Around.{around-of}
-use Rattle.questions.specs.Pass.{passed, notes, noted}
-use Rattle.questions.specs.Questions.{stmt-lines, block-lines, scope-line}
+use Rattle.questions.specs.Pass.{passed, notes}
+use Rattle.questions.specs.Questions.{stmt-lines, block-lines, opt-block-lines, cases-lines}
 use Rattle.questions.proofs.BlockRow as K
-use Rattle.questions.proofs.CaseRow as C
+use Rattle.questions.proofs.Row as R
 use Rattle.questions.proofs.StatementParts as S
 use Rattle.questions.proofs.blocks.+block+cases+optional+statement+terminal.Needs as need
 
 pub block-loop-i-holds : need.block-loop-i-holds
-block-loop-i-holds t c = K.block-begin (c .args .bounds) (c .args .depth - 1) (slots (c .args .arena .now)) (c .args .row) (around-of (c .args .around .now)) (c .args .found) (c .args .seen .now) (K.block-body (c .args .depth) (slots (c .args .arena .now)) (c .args .row) (c .pre .decodes))
+block-loop-i-holds t c = R.row-begin (slot-of (slots (c .args .arena .now)) (block-of (c .args .depth - 1) (slots (c .args .arena .now)))) (body-of (slot-of (slots (c .args .arena .now)) (block-of (c .args .depth - 1) (slots (c .args .arena .now))))) (λ x. stmt-lines (c .args .bounds) x (around-of (c .args .around .now))) (λ b. block-lines (c .args .bounds) b (around-of (c .args .around .now))) (K.block-rows (c .args .bounds) (c .args .depth - 1) (slots (c .args .arena .now)) (around-of (c .args .around .now))) ((slots (c .args .arena .now)) .entries) (c .args .row) (c .args .found) (c .args .seen .now) (K.block-body (c .args .depth) (slots (c .args .arena .now)) (c .args .row) (c .pre .decodes))
 
 pub block-index-slot-requires : need.block-index-slot-requires
-block-index-slot-requires t c κs = omega (arith, c .args .arena .now .entries .ok .0, K.block-within (c .args .bounds) (c .args .depth - 1) (slots (c .args .arena .now)) (c .args .row) (around-of (c .args .around .now)) (c .args .found) (c .args .seen .now) (K.block-body (c .args .depth) (slots (c .args .arena .now)) (c .args .row) (c .pre .decodes)))
+block-index-slot-requires t c κs = omega (arith, c .args .arena .now .entries .ok .0, R.row-within (slot-of (slots (c .args .arena .now)) (block-of (c .args .depth - 1) (slots (c .args .arena .now)))) (body-of (slot-of (slots (c .args .arena .now)) (block-of (c .args .depth - 1) (slots (c .args .arena .now))))) (λ x. stmt-lines (c .args .bounds) x (around-of (c .args .around .now))) (λ b. block-lines (c .args .bounds) b (around-of (c .args .around .now))) (K.block-rows (c .args .bounds) (c .args .depth - 1) (slots (c .args .arena .now)) (around-of (c .args .around .now))) ((slots (c .args .arena .now)) .entries) (c .args .row) (c .args .found) (c .args .seen .now) (K.block-body (c .args .depth) (slots (c .args .arena .now)) (c .args .row) (c .pre .decodes)))
 
 pub block-statement-found-requires : need.block-statement-found-requires
 block-statement-found-requires t c κs =
     let ne = K.block-deep (c .args .depth) (slots (c .args .arena .now)) (c .args .row) (c .pre .decodes) in
-    (omega (arith, ne), (K.block-next (c .args .bounds) (c .args .depth - 1) (slots (c .args .arena .now)) (c .args .row) (around-of (c .args .around .now)) (c .args .found) (c .args .seen .now) (K.block-body (c .args .depth) (slots (c .args .arena .now)) (c .args .row) (c .pre .decodes)) (c .loop-i .i) _ (c .loop-i .found) (c .loop-i .seen) (c .loop-i-test .taken) (c .index-slot .ensures) (c .loop-i .inv), record { labels = omega (arith, ne, c .pre .room .labels); loops = omega (arith, ne, c .pre .room .loops) }))
+    (omega (arith, ne), (R.row-next (slot-of (slots (c .args .arena .now)) (block-of (c .args .depth - 1) (slots (c .args .arena .now)))) (body-of (slot-of (slots (c .args .arena .now)) (block-of (c .args .depth - 1) (slots (c .args .arena .now))))) (λ x. stmt-lines (c .args .bounds) x (around-of (c .args .around .now))) (λ b. block-lines (c .args .bounds) b (around-of (c .args .around .now))) (K.block-rows (c .args .bounds) (c .args .depth - 1) (slots (c .args .arena .now)) (around-of (c .args .around .now))) ((slots (c .args .arena .now)) .entries) (c .args .row) (c .args .found) (c .args .seen .now) (K.block-body (c .args .depth) (slots (c .args .arena .now)) (c .args .row) (c .pre .decodes)) (c .loop-i .i) _ (c .loop-i .found) (c .loop-i .seen) (c .loop-i-test .taken) (c .index-slot .ensures) (c .loop-i .inv), record { labels = omega (arith, ne, c .pre .room .labels); loops = omega (arith, ne, c .pre .room .loops) }))
 
 pub block-loop-i-again : need.block-loop-i-again
-block-loop-i-again t c = K.block-again (c .args .bounds) (c .args .depth - 1) (slots (c .args .arena .now)) (c .args .row) (around-of (c .args .around .now)) (c .args .found) (c .args .seen .now) (K.block-body (c .args .depth) (slots (c .args .arena .now)) (c .args .row) (c .pre .decodes)) (c .loop-i .i) _ (c .loop-i .found) (c .loop-i .seen) _ _ (c .loop-i-test .taken) (c .index-slot .ensures) (c .loop-i .inv) (c .statement-found .ensures)
+block-loop-i-again t c = R.row-again (slot-of (slots (c .args .arena .now)) (block-of (c .args .depth - 1) (slots (c .args .arena .now)))) (body-of (slot-of (slots (c .args .arena .now)) (block-of (c .args .depth - 1) (slots (c .args .arena .now))))) (λ x. stmt-lines (c .args .bounds) x (around-of (c .args .around .now))) (λ b. block-lines (c .args .bounds) b (around-of (c .args .around .now))) (K.block-rows (c .args .bounds) (c .args .depth - 1) (slots (c .args .arena .now)) (around-of (c .args .around .now))) ((slots (c .args .arena .now)) .entries) (c .args .row) (c .args .found) (c .args .seen .now) (K.block-body (c .args .depth) (slots (c .args .arena .now)) (c .args .row) (c .pre .decodes)) (c .loop-i .i) _ (c .loop-i .found) (c .loop-i .seen) _ _ (c .loop-i-test .taken) (c .index-slot .ensures) (c .loop-i .inv) (c .statement-found .ensures)
 
 pub block-returns : need.block-returns
 block-returns t c =
-    K.block-whole (c .args .depth) (slots (c .args .arena .now)) (c .args .row) _ _ _ _ _ (K.block-deep (c .args .depth) (slots (c .args .arena .now)) (c .args .row) (c .pre .decodes)) (K.block-end (c .args .bounds) (c .args .depth - 1) (slots (c .args .arena .now)) (c .args .row) (around-of (c .args .around .now)) (c .args .found) (c .args .seen .now) (K.block-body (c .args .depth) (slots (c .args .arena .now)) (c .args .row) (c .pre .decodes)) (c .loop-i .i) (c .loop-i .found) (c .loop-i .seen) (c .loop-i-test .left) (c .loop-i .inv))
+    K.block-whole (c .args .depth) (slots (c .args .arena .now)) (c .args .row) _ _ _ _ _ (K.block-deep (c .args .depth) (slots (c .args .arena .now)) (c .args .row) (c .pre .decodes)) (R.row-end (slot-of (slots (c .args .arena .now)) (block-of (c .args .depth - 1) (slots (c .args .arena .now)))) (body-of (slot-of (slots (c .args .arena .now)) (block-of (c .args .depth - 1) (slots (c .args .arena .now))))) (λ x. stmt-lines (c .args .bounds) x (around-of (c .args .around .now))) (λ b. block-lines (c .args .bounds) b (around-of (c .args .around .now))) (K.block-rows (c .args .bounds) (c .args .depth - 1) (slots (c .args .arena .now)) (around-of (c .args .around .now))) ((slots (c .args .arena .now)) .entries) (c .args .row) (c .args .found) (c .args .seen .now) (K.block-body (c .args .depth) (slots (c .args .arena .now)) (c .args .row) (c .pre .decodes)) (c .loop-i .i) (c .loop-i .found) (c .loop-i .seen) (c .loop-i-test .left) (c .loop-i .inv))
+
+pub cases-loop-i-holds : need.cases-loop-i-holds
+cases-loop-i-holds t c = R.row-begin (λ (k : ReactiveSwitchCase). opt-block-of (block-of (c .args .depth) (slots (c .args .arena .now))) (k .block)) (cases-of (block-of (c .args .depth) (slots (c .args .arena .now)))) (λ b. opt-block-lines (c .args .bounds) b (around-of (c .args .around .now))) (λ b. cases-lines (c .args .bounds) b (around-of (c .args .around .now))) (K.case-rows (c .args .bounds) (c .args .depth) (slots (c .args .arena .now)) (around-of (c .args .around .now))) ((slots (c .args .arena .now)) .cases) (c .args .row) (c .args .found) (c .args .seen .now) (c .pre .decodes)
+
+pub cases-index-case-requires : need.cases-index-case-requires
+cases-index-case-requires t c κs = omega (arith, c .args .arena .now .cases .ok .0, R.row-within (λ (k : ReactiveSwitchCase). opt-block-of (block-of (c .args .depth) (slots (c .args .arena .now))) (k .block)) (cases-of (block-of (c .args .depth) (slots (c .args .arena .now)))) (λ b. opt-block-lines (c .args .bounds) b (around-of (c .args .around .now))) (λ b. cases-lines (c .args .bounds) b (around-of (c .args .around .now))) (K.case-rows (c .args .bounds) (c .args .depth) (slots (c .args .arena .now)) (around-of (c .args .around .now))) ((slots (c .args .arena .now)) .cases) (c .args .row) (c .args .found) (c .args .seen .now) (c .pre .decodes))
+
+pub cases-returns : need.cases-returns
+cases-returns t c = R.row-end (λ (k : ReactiveSwitchCase). opt-block-of (block-of (c .args .depth) (slots (c .args .arena .now))) (k .block)) (cases-of (block-of (c .args .depth) (slots (c .args .arena .now)))) (λ b. opt-block-lines (c .args .bounds) b (around-of (c .args .around .now))) (λ b. cases-lines (c .args .bounds) b (around-of (c .args .around .now))) (K.case-rows (c .args .bounds) (c .args .depth) (slots (c .args .arena .now)) (around-of (c .args .around .now))) ((slots (c .args .arena .now)) .cases) (c .args .row) (c .args .found) (c .args .seen .now) (c .pre .decodes) (c .loop-i .i) (c .loop-i .found) (c .loop-i .seen) (c .loop-i-test .left) (c .loop-i .inv)
 
 pub cases-optional-found-requires : need.cases-optional-found-requires
 cases-optional-found-requires t c κs =
-    (omega arith, (C.cases-next (c .args .bounds) (c .args .depth) (slots (c .args .arena .now)) (c .args .row) (around-of (c .args .around .now)) (c .args .found) (c .args .seen .now) (c .pre .decodes) (c .loop-i .i) _ (c .loop-i .found) (c .loop-i .seen) (c .loop-i-test .taken) (c .index-case .ensures) (c .loop-i .inv), c .pre .room))
+    (omega arith, (R.row-next (λ (k : ReactiveSwitchCase). opt-block-of (block-of (c .args .depth) (slots (c .args .arena .now))) (k .block)) (cases-of (block-of (c .args .depth) (slots (c .args .arena .now)))) (λ b. opt-block-lines (c .args .bounds) b (around-of (c .args .around .now))) (λ b. cases-lines (c .args .bounds) b (around-of (c .args .around .now))) (K.case-rows (c .args .bounds) (c .args .depth) (slots (c .args .arena .now)) (around-of (c .args .around .now))) ((slots (c .args .arena .now)) .cases) (c .args .row) (c .args .found) (c .args .seen .now) (c .pre .decodes) (c .loop-i .i) _ (c .loop-i .found) (c .loop-i .seen) (c .loop-i-test .taken) (c .index-case .ensures) (c .loop-i .inv), c .pre .room))
 
 pub cases-loop-i-again : need.cases-loop-i-again
-cases-loop-i-again t c = C.cases-again (c .args .bounds) (c .args .depth) (slots (c .args .arena .now)) (c .args .row) (around-of (c .args .around .now)) (c .args .found) (c .args .seen .now) (c .pre .decodes) (c .loop-i .i) _ (c .loop-i .found) (c .loop-i .seen) _ _ (c .loop-i-test .taken) (c .index-case .ensures) (c .loop-i .inv) (c .optional-found .ensures)
+cases-loop-i-again t c = R.row-again (λ (k : ReactiveSwitchCase). opt-block-of (block-of (c .args .depth) (slots (c .args .arena .now))) (k .block)) (cases-of (block-of (c .args .depth) (slots (c .args .arena .now)))) (λ b. opt-block-lines (c .args .bounds) b (around-of (c .args .around .now))) (λ b. cases-lines (c .args .bounds) b (around-of (c .args .around .now))) (K.case-rows (c .args .bounds) (c .args .depth) (slots (c .args .arena .now)) (around-of (c .args .around .now))) ((slots (c .args .arena .now)) .cases) (c .args .row) (c .args .found) (c .args .seen .now) (c .pre .decodes) (c .loop-i .i) _ (c .loop-i .found) (c .loop-i .seen) _ _ (c .loop-i-test .taken) (c .index-case .ensures) (c .loop-i .inv) (c .optional-found .ensures)
 
 pub statement-index-requires : need.statement-index-requires
 statement-index-requires t c κs = omega (arith, c .args .arena .now .statements .ok .0, S.stmt-within (slots (c .args .arena .now)) (block-of (c .args .depth) (slots (c .args .arena .now))) (c .args .slot) (c .pre .decodes .what) (c .pre .decodes .is))

@@ -1,8 +1,7 @@
 use Prim.Native.Nat.{_+_, _*_}
 use Rattle.hir.specs.Held.{slots}
 use Rattle.questions.specs.Around.{around-of}
-use Rattle.questions.proofs.BlockRow.{BlockLeft}
-use Rattle.questions.proofs.CaseRow.{CasesLeft}
+use Rattle.questions.proofs.BlockRow.{BlockLeft, CasesLeft}
 use Rattle.questions.proofs.blocks.+block+cases+optional+statement+terminal.Given as given
 
 -- within a depth the calls go from statement to terminal, cases, an optional block and the block

@@ -1,6 +1,6 @@
-use mathlib.Core.Path.{_≡_, refl, sym, ap, ap₂, _∙_}
-use mathlib.Core.List.{[], _∷_, _++_}
-use Prim.Native.Nat.{_-_, _<_}
+use mathlib.Core.Path.{ap, ap₂, _∙_}
+use mathlib.Core.List.{_++_}
+use Prim.Native.Nat.{_-_}
 use native.Mathlib.Omega.{arith}
 use Rattle.hir.specs.Held.{value-slots}
 use Rattle.questions.specs.Questions.{val-ops}

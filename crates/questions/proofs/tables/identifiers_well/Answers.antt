@@ -1,4 +1,4 @@
-use mathlib.Core.Path.{_≡_, sym, _∙_}
+use mathlib.Core.Path.{sym, _∙_}
 use Rattle.questions.specs.Questions.{identifier-in}
 use Rattle.questions.proofs.Every.{every-on, every-stops, every-ends}
 use Rattle.questions.proofs.tables.identifiers_well.Needs as need

@@ -1,4 +1,4 @@
-use mathlib.Core.Path.{_≡_, sym, _∙_}
+use mathlib.Core.Path.{sym, _∙_}
 use Rattle.hir.specs.declared.environment.ReactiveScope.{ReactiveScope}
 use Rattle.questions.specs.Questions.{unrecorded}
 use Rattle.questions.proofs.Every.{every-on, every-stops, every-ends}

@@ -1,5 +1,4 @@
-use mathlib.Core.Bool.{true}
-use mathlib.Core.Path.{_≡_, sym, _∙_}
+use mathlib.Core.Path.{sym, _∙_}
 use Rattle.hir.specs.declared.terminal.ReactiveSwitchCase.{ReactiveSwitchCase}
 use Rattle.questions.specs.Questions.{opt-place-in}
 use Rattle.questions.proofs.Every.{every-on, every-stops, every-ends}

@@ -1,7 +1,7 @@
 use mathlib.Core.List.{_++_}
 use Rattle.questions.specs.Pass.{notes}
 use Rattle.questions.specs.Questions.{opt-val-lines}
-use Rattle.questions.proofs.Passing.{pass-then}
+use Rattle.questions.proofs.Row.{pass-then}
 use Rattle.questions.proofs.terminals.values_inside.Needs as need
 
 pub returns : need.returns

@@ -1,5 +1,5 @@
 use mathlib.Core.List.{_++_}
-use mathlib.Core.Path.{_≡_, ap₂, _∙_}
+use mathlib.Core.Path.{ap₂, _∙_}
 use Rattle.questions.specs.Own.{both-own}
 use Rattle.questions.specs.Questions.{opt-val-ops}
 use Rattle.questions.proofs.ValueParts.{own-append}

@@ -1,13 +1,14 @@
-use mathlib.Core.Path.{_≡_, refl, sym, ap, _∙_}
+use mathlib.Core.Path.{sym, ap, _∙_}
 use mathlib.Core.Bool.{true}
-use mathlib.Core.List.{[], _∷_, _++_}
-use Prim.Native.Nat.{_-_, _<_}
+use mathlib.Core.List.{[], _++_}
+use Prim.Native.Nat.{_-_}
 use native.Mathlib.Omega.{arith}
 use Rattle.hir.specs.Held.{value-slots}
-use Rattle.hir.specs.Decode.{value-of}
-use Rattle.questions.specs.Questions.{val-lines, instrs-lines}
+use Rattle.hir.specs.Decode.{instr-of, instrs-of, value-of}
+use Rattle.questions.specs.Questions.{val-lines, instr-lines, instrs-lines}
 use Rattle.questions.specs.Pass.{passed, noted, notes}
 use Rattle.questions.proofs.Passing as P
+use Rattle.questions.proofs.Row as R
 use Rattle.questions.proofs.ValueParts as V
 use Rattle.questions.proofs.values.+instruction+sequence+value.Needs as need
 
@@ -74,7 +75,7 @@ value-returns-in-LogicalExpression t c =
       by = λ v e seen.
           let p = V.logical-parts (c .args .depth) (value-slots (c .args .arena .now)) (c .args .slot) v _ e (c .index .ensures) (c .in-LogicalExpression .operator) (c .in-LogicalExpression .left) (c .in-LogicalExpression .right) (c .in-LogicalExpression .is) in
           ap (λ x. passed (val-lines (c .args .bounds) x) (notes (c .args .found) seen)) (sym (p .5))
-          ∙ P.pass-then (val-lines (c .args .bounds) (p .1)) (val-lines (c .args .bounds) (p .2)) (notes (c .args .found) seen) (notes (c .value-after .result) seen) (c .value-after .ensures .by (p .1) (p .3) seen) (c .value .ensures .by (p .2) (p .4) seen);
+          ∙ R.pass-then (val-lines (c .args .bounds) (p .1)) (val-lines (c .args .bounds) (p .2)) (notes (c .args .found) seen) (notes (c .value-after .result) seen) (c .value-after .ensures .by (p .1) (p .3) seen) (c .value .ensures .by (p .2) (p .4) seen);
     }
 
 pub value-returns-in-ConditionalExpression : need.value-returns-in-ConditionalExpression
@@ -83,8 +84,8 @@ value-returns-in-ConditionalExpression t c =
       by = λ v e seen.
           let p = V.conditional-parts (c .args .depth) (value-slots (c .args .arena .now)) (c .args .slot) v _ e (c .index .ensures) (c .in-ConditionalExpression .test) (c .in-ConditionalExpression .consequent) (c .in-ConditionalExpression .alternate) (c .in-ConditionalExpression .is) in
           ap (λ x. passed (val-lines (c .args .bounds) x) (notes (c .args .found) seen)) (sym (p .7))
-          ∙ P.pass-then (val-lines (c .args .bounds) (p .1)) (val-lines (c .args .bounds) (p .2) ++ val-lines (c .args .bounds) (p .3)) (notes (c .args .found) seen) (notes (c .value-tested .result) seen) (c .value-tested .ensures .by (p .1) (p .4) seen)
-          (P.pass-then (val-lines (c .args .bounds) (p .2)) (val-lines (c .args .bounds) (p .3)) (notes (c .value-tested .result) seen) (notes (c .value-after-in-ConditionalExpression .result) seen) (c .value-after-in-ConditionalExpression .ensures .by (p .2) (p .5) seen) (c .value-in-ConditionalExpression .ensures .by (p .3) (p .6) seen));
+          ∙ R.pass-then (val-lines (c .args .bounds) (p .1)) (val-lines (c .args .bounds) (p .2) ++ val-lines (c .args .bounds) (p .3)) (notes (c .args .found) seen) (notes (c .value-tested .result) seen) (c .value-tested .ensures .by (p .1) (p .4) seen)
+          (R.pass-then (val-lines (c .args .bounds) (p .2)) (val-lines (c .args .bounds) (p .3)) (notes (c .value-tested .result) seen) (notes (c .value-after-in-ConditionalExpression .result) seen) (c .value-after-in-ConditionalExpression .ensures .by (p .2) (p .5) seen) (c .value-in-ConditionalExpression .ensures .by (p .3) (p .6) seen));
     }
 
 pub value-returns-in-SequenceExpression : need.value-returns-in-SequenceExpression
@@ -93,7 +94,7 @@ value-returns-in-SequenceExpression t c =
       by = λ v e seen.
           let p = V.sequence-parts (c .args .depth) (value-slots (c .args .arena .now)) (c .args .slot) v _ e (c .index .ensures) (c .in-SequenceExpression .instructions) (c .in-SequenceExpression .id) (c .in-SequenceExpression .last) (c .in-SequenceExpression .is) in
           ap (λ x. passed (val-lines (c .args .bounds) x) (notes (c .args .found) seen)) (sym (p .5))
-          ∙ P.pass-then (instrs-lines (c .args .bounds) (p .1)) (val-lines (c .args .bounds) (p .2)) (notes (c .args .found) seen) (notes (c .sequence-after .result) seen) (c .sequence-after .ensures .by (p .1) (p .3) seen) (c .value-in-SequenceExpression .ensures .by (p .2) (p .4) seen);
+          ∙ R.pass-then (instrs-lines (c .args .bounds) (p .1)) (val-lines (c .args .bounds) (p .2)) (notes (c .args .found) seen) (notes (c .sequence-after .result) seen) (c .sequence-after .ensures .by (p .1) (p .3) seen) (c .value-in-SequenceExpression .ensures .by (p .2) (p .4) seen);
     }
 
 pub value-returns-in-OptionalExpression : need.value-returns-in-OptionalExpression
@@ -104,10 +105,19 @@ value-returns-in-OptionalExpression t c =
           ap (λ x. passed (val-lines (c .args .bounds) x) (notes (c .args .found) seen)) (sym (p .3)) ∙ c .value-in-OptionalExpression .ensures .by (p .1) (p .2) seen;
     }
 
+pub sequence-loop-i-holds : need.sequence-loop-i-holds
+sequence-loop-i-holds t c = λ seen. R.row-begin (instr-of (value-of (c .args .depth) (value-slots (c .args .arena .now)))) (instrs-of (value-of (c .args .depth) (value-slots (c .args .arena .now)))) (instr-lines (c .args .bounds)) (instrs-lines (c .args .bounds)) (P.instr-rows (c .args .bounds) (value-of (c .args .depth) (value-slots (c .args .arena .now)))) ((value-slots (c .args .arena .now)) .instructions) (c .args .instructions) (c .args .found) seen (c .pre)
+
+pub sequence-index-next-requires : need.sequence-index-next-requires
+sequence-index-next-requires t c κs = omega (arith, c .args .arena .now .instructions .ok .0, R.row-within (instr-of (value-of (c .args .depth) (value-slots (c .args .arena .now)))) (instrs-of (value-of (c .args .depth) (value-slots (c .args .arena .now)))) (instr-lines (c .args .bounds)) (instrs-lines (c .args .bounds)) (P.instr-rows (c .args .bounds) (value-of (c .args .depth) (value-slots (c .args .arena .now)))) ((value-slots (c .args .arena .now)) .instructions) (c .args .instructions) (c .args .found) [] (c .pre))
+
 pub sequence-instruction-found-requires : need.sequence-instruction-found-requires
 sequence-instruction-found-requires t c κs =
-    (omega arith, P.instrs-next (c .args .bounds) (c .args .depth) (value-slots (c .args .arena .now)) (c .args .instructions) (c .args .found) (c .pre) (c .loop-i .i) (c .loop-i .found) (c .index-next .result .now) (c .loop-i-test .taken) (c .index-next .ensures) (c .loop-i .inv))
+    (omega arith, R.row-next (instr-of (value-of (c .args .depth) (value-slots (c .args .arena .now)))) (instrs-of (value-of (c .args .depth) (value-slots (c .args .arena .now)))) (instr-lines (c .args .bounds)) (instrs-lines (c .args .bounds)) (P.instr-rows (c .args .bounds) (value-of (c .args .depth) (value-slots (c .args .arena .now)))) ((value-slots (c .args .arena .now)) .instructions) (c .args .instructions) (c .args .found) [] (c .pre) (c .loop-i .i) _ (c .loop-i .found) [] (c .loop-i-test .taken) (c .index-next .ensures) (c .loop-i .inv []))
 
 pub sequence-loop-i-again : need.sequence-loop-i-again
-sequence-loop-i-again t c =
-    P.instrs-again (c .args .bounds) (c .args .depth) (value-slots (c .args .arena .now)) (c .args .instructions) (c .args .found) (c .pre) (c .loop-i .i) (c .loop-i .found) (c .instruction-found .result) (c .index-next .result .now) (c .loop-i-test .taken) (c .index-next .ensures) (c .loop-i .inv) (c .instruction-found .ensures)
+sequence-loop-i-again t c = λ seen.
+    R.row-again (instr-of (value-of (c .args .depth) (value-slots (c .args .arena .now)))) (instrs-of (value-of (c .args .depth) (value-slots (c .args .arena .now)))) (instr-lines (c .args .bounds)) (instrs-lines (c .args .bounds)) (P.instr-rows (c .args .bounds) (value-of (c .args .depth) (value-slots (c .args .arena .now)))) ((value-slots (c .args .arena .now)) .instructions) (c .args .instructions) (c .args .found) seen (c .pre) (c .loop-i .i) _ (c .loop-i .found) seen (c .instruction-found .result) seen (c .loop-i-test .taken) (c .index-next .ensures) (c .loop-i .inv seen) (P.inner-outer seen (c .instruction-found .ensures))
+
+pub sequence-returns : need.sequence-returns
+sequence-returns t c = P.outer-inner (λ seen. R.row-end (instr-of (value-of (c .args .depth) (value-slots (c .args .arena .now)))) (instrs-of (value-of (c .args .depth) (value-slots (c .args .arena .now)))) (instr-lines (c .args .bounds)) (instrs-lines (c .args .bounds)) (P.instr-rows (c .args .bounds) (value-of (c .args .depth) (value-slots (c .args .arena .now)))) ((value-slots (c .args .arena .now)) .instructions) (c .args .instructions) (c .args .found) seen (c .pre) (c .loop-i .i) (c .loop-i .found) seen (c .loop-i-test .left) (c .loop-i .inv seen))

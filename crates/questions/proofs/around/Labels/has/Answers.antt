@@ -1,4 +1,3 @@
-use borrow.Author.Needs.{needs}
 use Rattle.questions.proofs.Stacked.{has-more}
 use Rattle.questions.proofs.around.Labels.has.Needs as need
 
