@@ -42,6 +42,10 @@ onto-more ws w (Ok vs) = ap Ok (sym (append-assoc ws (w ∷ []) vs))
 onto-more ws w (Err f) = refl
 
 -- at a character that does step
+pub said-at : (s : State) (at : Position) (b : ℕ) (bs : List ℕ) (step : Step) → step-of s at (kind-of b) ≡ step → said-from s at (b ∷ bs) ≡ goes step (next-of at b) bs
+said-at s at b bs step e = ap (λ (t : Step). goes t (next-of at b) bs) e
+
+-- the same, in the middle of a text
 said-here : (text : List ℕ) (s : State) (at : Position) (i : ℕ) (step : Step) → i < length text → step ≡ step-of s at (kind-of (getD text i 0)) →
     said-from s at (drop i text) ≡ goes step (next-of at (getD text i 0)) (drop (i + 1) text)
 said-here text s at i step h e =
