@@ -62,11 +62,12 @@ one-more n ds h begins small at rest =
     let b = begins less at ((48 + d) ∷ rest) in
     let fits : (n / 10) * 10 + d < 4294967296 = omega arith in
     let step : step-of (Word (n / 10) (b .from)) (b .to) (kind-of (48 + d)) ≡ On (Word n (b .from)) =
-        ap (step-of (Word (n / 10) (b .from)) (b .to)) (digit-kind d below) ∙ longer-on (n / 10) (b .from) d fits ∙ ap (λ m. On (Word m (b .from))) whole in
+    ap (step-of (Word (n / 10) (b .from)) (b .to)) (digit-kind d below) ∙ longer-on (n / 10) (b .from) d fits ∙ ap (λ m. On (Word m (b .from))) whole in
     record {
       from = b .from;
       to = next-of (b .to) (48 + d);
-      same = ap (said-from Between at) (append-assoc ds ((48 + d) ∷ []) rest) ∙ b .same ∙ said-at (Word (n / 10) (b .from)) (b .to) (48 + d) rest (On (Word n (b .from))) step }
+      same = ap (said-from Between at) (append-assoc ds ((48 + d) ∷ []) rest) ∙ b .same ∙ said-at (Word (n / 10) (b .from)) (b .to) (48 + d) rest (On (Word n (b .from))) step;
+    }
 
 word-begins : (n : ℕ) → n < 4294967296 → (at : Position) (rest : List ℕ) → Begun n at (decimal n) rest
 word-begins n h at rest = decimal-by-steps Begins one-digit one-more n (omega arith) h at rest
@@ -95,14 +96,15 @@ tail-passes n (w ∷ ws) h from at rest =
     let b = word-begins w (h .0) (next-of at 32) (more ++ rest) in
     let p = tail-passes w ws (h .1) (b .from) (b .to) rest in
     let apart : ((decimal w ++ spaced ws) ++ 10 ∷ []) ++ rest ≡ decimal w ++ (more ++ rest) =
-        ap (λ (l : List ℕ). l ++ rest) (append-assoc (decimal w) (spaced ws) (10 ∷ [])) ∙ append-assoc (decimal w) more rest in
+    ap (λ (l : List ℕ). l ++ rest) (append-assoc (decimal w) (spaced ws) (10 ∷ [])) ∙ append-assoc (decimal w) more rest in
     record {
       to = p .to;
       same =
-        word-ends n 32 from at (((decimal w ++ spaced ws) ++ 10 ∷ []) ++ rest) refl
-        ∙ ap (λ (l : List ℕ). onto (n ∷ []) (said-from Between (next-of at 32) l)) apart
-        ∙ ap (onto (n ∷ [])) (b .same ∙ p .same)
-        ∙ onto-onto (n ∷ []) (w ∷ ws) (said-from Between (p .to) rest) }
+          word-ends n 32 from at (((decimal w ++ spaced ws) ++ 10 ∷ []) ++ rest) refl
+          ∙ ap (λ (l : List ℕ). onto (n ∷ []) (said-from Between (next-of at 32) l)) apart
+          ∙ ap (onto (n ∷ [])) (b .same ∙ p .same)
+          ∙ onto-onto (n ∷ []) (w ∷ ws) (said-from Between (p .to) rest);
+    }
 
 onto-none : (r : Result (List ℕ) TextFault) → onto [] r ≡ r
 onto-none (Ok us) = refl
@@ -115,5 +117,5 @@ line-passes (w ∷ ws) h at rest =
     let b = word-begins w (h .0) at (more ++ rest) in
     let p = tail-passes w ws (h .1) (b .from) (b .to) rest in
     let apart : ((decimal w ++ spaced ws) ++ 10 ∷ []) ++ rest ≡ decimal w ++ (more ++ rest) =
-        ap (λ (l : List ℕ). l ++ rest) (append-assoc (decimal w) (spaced ws) (10 ∷ [])) ∙ append-assoc (decimal w) more rest in
+    ap (λ (l : List ℕ). l ++ rest) (append-assoc (decimal w) (spaced ws) (10 ∷ [])) ∙ append-assoc (decimal w) more rest in
     record { to = p .to; same = ap (said-from Between at) apart ∙ b .same ∙ p .same }

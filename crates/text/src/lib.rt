@@ -1,4 +1,5 @@
 // Words as text in decimal, read and written, and as bytes.
+pub mod again;
 pub mod bytes;
 pub mod character;
 pub mod line;
