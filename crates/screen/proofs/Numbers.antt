@@ -1,7 +1,7 @@
 -- Where a reader of numbers stands: the values so far, and what the rest of the words says, are what all of them say.
 -- One lemma for the start, each way through a turn, and the end.
 use mathlib.Core.Path.{_≡_, refl, sym, ap, _∙_}
-use mathlib.Core.List.{List, [], _∷_, _++_, append-assoc, append-nil, map}
+use mathlib.Core.List.{List, [], _∷_, _++_, append-assoc, append-nil}
 use Prim.Native.Nat.{ℕ, _+_, _≤_, _<_}
 use native.Mathlib.Numerals.{add-one}
 use lib.ListN.{length, drop, getD}
@@ -27,9 +27,6 @@ after-none (Some vs) = refl
 after-more : (vs : List ℕ) (v : ℕ) (o : Option (List ℕ)) → after vs (onto (Some v) o) ≡ after (vs ++ v ∷ []) o
 after-more vs v None = refl
 after-more vs v (Some ws) = ap Some (sym (append-assoc vs (v ∷ []) ws))
-
-onto-none : (o : Option (List ℕ)) → onto None o ≡ None
-onto-none o = refl
 
 -- at a word that says o
 here : (words : List (List ℕ)) (vs : List ℕ) (i : ℕ) (o : Option ℕ) → i < length words → o ≡ number-of (getD words i []) → Counted words vs i →

@@ -1,18 +1,16 @@
 -- A list host that answers a question that is not fixed has one answer less.
 -- The question here is a test of nothing, which no host answers alike.
-use mathlib.Core.Path.{_≡_, refl, sym, ap, _∙_}
+use mathlib.Core.Path.{_≡_, refl, ap, _∙_}
 use mathlib.Core.Bool.{Bool, true, false, cond}
 use mathlib.Core.List.{[]}
-use Prim.Native.Nat.{ℕ, _+_, _-_, _<_}
+use Prim.Native.Nat.{ℕ, _+_}
 use native.Mathlib.Omega.{arith}
 use lib.Dec.{ltb}
 use lib.ListN.{length, getD}
 use borrow.Author.Tests.{ltb-true}
-use Rattle.std.proofs.shelf.Ways.{tells}
 use Rattle.std.specs.declared.option.Option.the-variants.{None}
 use Rattle.host.specs.Asked.{Asked, asked, fixed, or-else, or-stay}
 use Rattle.host.specs.Hosts.{Tape, tape, list-answer, list-next}
-use Rattle.host.specs.declared.Reply.{Reply}
 use Rattle.host.specs.declared.Reply.the-variants.{Value, Thrown}
 use Rattle.screen.specs.Unused.{left}
 

@@ -1,14 +1,13 @@
 -- A turn reads one word.
-use mathlib.Core.Path.{_≡_, sym, ap, subst, _∙_}
-use mathlib.Core.List.{List, map}
-use Prim.Native.Nat.{ℕ, _≤_, _<_}
+use mathlib.Core.Path.{ap, _∙_}
+use mathlib.Core.List.{map}
+use Prim.Native.Nat.{_≤_, _<_}
 use lib.ListN.{length}
 use Rattle.std.proofs.shelf.Lists.{length-map}
 use Rattle.std.specs.Of.String.{string-bytes}
-use Rattle.std.specs.Of.Vec.{vec-items}
 use Rattle.text.proofs.Pushed.{has-pushed}
 use Rattle.screen.specs.Number.{number-of}
-use Rattle.screen.proofs.Numbers.{Counted, counted-first, counted-more, counted-refused, counted-all}
+use Rattle.screen.proofs.Numbers.{counted-first, counted-more, counted-refused, counted-all}
 use Rattle.screen.proofs.Words.{word-at}
 use Rattle.screen.proofs.arguments.numbers.Needs as need
 

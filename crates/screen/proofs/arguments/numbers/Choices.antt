@@ -1,10 +1,7 @@
 -- The values so far, and what the rest of the words says, are what all the words say.
-use mathlib.Core.Path.{_≡_}
 use mathlib.Core.List.{map}
-use lib.ListN.{drop}
 use Rattle.std.specs.Of.String.{string-bytes}
 use Rattle.std.specs.Of.Vec.{vec-items}
-use Rattle.screen.specs.Arguments.{numbers-of}
 use Rattle.screen.proofs.Numbers.{Counted}
 use Rattle.screen.proofs.arguments.numbers.Given as given
 

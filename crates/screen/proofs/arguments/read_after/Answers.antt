@@ -1,5 +1,5 @@
 -- Each way out, by the words looked at.
-use mathlib.Core.Path.{_≡_, sym, ap, _∙_}
+use mathlib.Core.Path.{ap, _∙_}
 use Rattle.std.proofs.shelf.Results.{err-from-errBy}
 use Rattle.std.specs.Of.String.{string-bytes}
 use Rattle.screen.specs.Number.{number-of}

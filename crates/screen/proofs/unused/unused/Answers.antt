@@ -1,8 +1,5 @@
 -- Each answer leaves one less.
-use mathlib.Core.Path.{_≡_}
-use Prim.Native.Nat.{_+_}
 use native.Mathlib.Omega.{arith}
-use Rattle.host.specs.Hosts.{tape}
 use Rattle.screen.proofs.Tapes.{one-less}
 use Rattle.screen.proofs.unused.unused.Needs as need
 
