@@ -6,6 +6,7 @@ use mathlib.Core.List.{List, [], _∷_, _++_}
 use Prim.Native.Nat.{ℕ, zero, suc, _+_, _-_, _*_, _≤_, _<_}
 use native.Mathlib.Omega.{arith}
 use lib.Dec.{eqb, ltb}
+use lib.ListN.{length}
 use Rattle.std.proofs.shelf.Tests.{lt-ltb, le-ltb}
 use Rattle.std.specs.declared.option.Option.{Option}
 use Rattle.std.specs.declared.option.Option.the-variants.{Some, None}
@@ -25,12 +26,12 @@ use Rattle.run.specs.declared.frame.Exit.the-variants as E
 use Rattle.run.specs.declared.frame.Frame.{Frame}
 use Rattle.run.specs.declared.frame.Frame.the-variants as F
 use Rattle.run.specs.Tasks.{Task, block, begun, value, assigns, leaves, around, act, resume, runs, begins}
-use Rattle.run.specs.Turn.{Leads, state-of}
-use Rattle.run.proofs.Decoded.{block-end, block-first}
+use Rattle.run.specs.Turn.{Leads, Next, state-of}
+use Rattle.run.proofs.Decoded.{block-in, block-deep, block-end, block-first}
 use Rattle.run.proofs.Rows.{behind}
 use Rattle.run.proofs.Stack.{later, closes}
-use Rattle.run.proofs.Statements.{instruction-parts, scope-parts, pruned-parts}
-use Rattle.run.proofs.Turning.{Next, top, stay, goes, paying, snoc-length}
+use Rattle.run.proofs.StatementParts.{stmt-in, instruction-parts, scope-parts, pruned-parts}
+use Rattle.run.proofs.Turning.{top, stay, goes, paying, snoc-length, next}
 
 module _ {S : Type 0} (H : Meaning S) (B : ℕ) (rec : ℕ → Option ℕ) (a : Slots) (W : ℕ) (w : Result S) where
   ran : (x : Stmt) (s : State S) → ltb (s .steps) B ≡ true → runS H (within H B) rec (suc B) x s ≡ begins H B rec x (stepped s)
@@ -49,6 +50,14 @@ module _ {S : Type 0} (H : Meaning S) (B : ℕ) (rec : ℕ → Option ℕ) (a : 
 
   module _ (fs : List Frame) {x : Exit} {h : S} {σ : List ℕ} {given steps entries : ℕ} {recorded : Bool} (n : x ≡ E.Normal) where
     -- ---- a block
+    pub block-row : (r : Range) (d : ℕ) → Leads H B rec a W w (fs ++ F.Block r d ∷ []) x h σ given steps entries recorded → (r .start + r .count ≤ length (a .entries)) × (1 ≤ d)
+    block-row r d ld =
+        let m = top H B rec a W w fs (F.Block r d) n ld .means in
+        (block-in a d r (m .0) (m .2), block-deep a d r (m .0) (m .2))
+
+    pub statement-slot : (k d : ℕ) → Leads H B rec a W w (fs ++ F.Statement k d ∷ []) x h σ given steps entries recorded → k < length (a .statements)
+    statement-slot k d ld = let m = top H B rec a W w fs (F.Statement k d) n ld .means in stmt-in a d k (m .0) (m .2)
+
     pub on-block-end : (r : Range) (d : ℕ) → r .count ≡ 0
         → Leads H B rec a W w (fs ++ F.Block r d ∷ []) x h σ given steps entries recorded
         → Next H B rec a W w fs (F.Block r d) steps fs x h σ given steps entries recorded
@@ -85,9 +94,13 @@ module _ {S : Type 0} (H : Meaning S) (B : ℕ) (rec : ℕ → Option ℕ) (a : 
         let e = ran (aimS (q .0) (around (o .kont))) (state-of h σ given steps entries recorded) (lt-ltb steps B b) in
         let is : o .task ≡ block (cons (q .0) (q .1)) = m .1 ∙ ap block (q .2) in
         let light = rw is at (o .light) in
-        paying H B rec a W w o (block (cons (q .0) (q .1))) is _ (begun (q .0) ∷ block (q .1) ∷ o .kont) n h σ given entries
-        (F.Statement k (d - 1), fs ++ F.Block (behind r 1) d ∷ [], refl, (q .0, refl, q .3, omega arith),
-        (F.Block (behind r 1) d, fs, refl, (q .1, refl, q .4, omega arith), later a B W steps (suc steps) fs (o .kont) (omega arith) (o .stacked)))
+        paying H B rec a W w o (block (cons (q .0) (q .1))) is _ (begun (q .0) ∷ block (q .1) ∷ o .kont) n h σ given entries (
+          F.Statement k (d - 1),
+          fs ++ F.Block (behind r 1) d ∷ [],
+          refl,
+          (q .0, refl, q .3, omega arith),
+          (F.Block (behind r 1) d, fs, refl, (q .1, refl, q .4, omega arith), later a B W steps (suc steps) fs (o .kont) (omega arith) (o .stacked)),
+        )
         (omega arith)
         b
         (ap (λ (r : Result S). resume H B rec (o .kont) (bind r (λ t. runs H B rec (aimB (q .1) (around (o .kont))) t))) (sym e))
@@ -193,4 +206,23 @@ module _ {S : Type 0} (H : Meaning S) (B : ℕ) (rec : ℕ → Option ℕ) (a : 
         let is = o .means in
         let c = rw is at (o .counted) in
         let s = subst (λ (t : Task). resume H B rec (o .kont) (act H B rec (around (o .kont)) t (done normal (state-of h σ given steps entries recorded))) ≡ w) is (o .same) in
-        closes H B rec a W w o fs (E.Returned v) h σ given entries true (o .kont) (o .stacked) (rw is (omega arith)) (ap (resume H B rec (o .kont)) (returns-once i v (o .calm) ev e) ∙ s) (omega arith) tt
+        next (closes H B rec a W w o fs (E.Returned v) h σ given entries true (o .kont) (o .stacked) (rw is (omega arith)) (ap (resume H B rec (o .kont)) (returns-once i v (o .calm) ev e) ∙ s) (omega arith) tt)
+
+    -- by what the frame names
+    pub leaves-none : (r : Option ℕ) → r ≡ None → Leads H B rec a W w (fs ++ F.Leaves r ∷ []) x h σ given steps entries recorded
+        → Next H B rec a W w fs (F.Leaves r) steps fs x h σ given steps entries recorded
+    leaves-none r e ld =
+        let P : Option ℕ → Type 0 = λ z. Leads H B rec a W w (fs ++ F.Leaves z ∷ []) x h σ given steps entries recorded → Next H B rec a W w fs (F.Leaves z) steps fs x h σ given steps entries recorded in
+        subst P (sym e) on-leaves-none ld
+
+    pub leaves-empty : (r : Option ℕ) (i : ℕ) → r ≡ Some i → eqb (look σ i) 1 ≡ true → Leads H B rec a W w (fs ++ F.Leaves r ∷ []) x h σ given steps entries recorded
+        → Next H B rec a W w fs (F.Leaves r) steps fs x h σ given steps entries recorded
+    leaves-empty r i e q ld =
+        let P : Option ℕ → Type 0 = λ z. Leads H B rec a W w (fs ++ F.Leaves z ∷ []) x h σ given steps entries recorded → Next H B rec a W w fs (F.Leaves z) steps fs x h σ given steps entries recorded in
+        subst P (sym e) (on-leaves-empty i q) ld
+
+    pub leaves-return : (r : Option ℕ) (i v : ℕ) → r ≡ Some i → v ≡ look σ i → eqb v 1 ≡ false → Leads H B rec a W w (fs ++ F.Leaves r ∷ []) x h σ given steps entries recorded
+        → Next H B rec a W w fs (F.Leaves r) steps fs (E.Returned v) h σ given steps entries true
+    leaves-return r i v e ev q ld =
+        let P : Option ℕ → Type 0 = λ z. Leads H B rec a W w (fs ++ F.Leaves z ∷ []) x h σ given steps entries recorded → Next H B rec a W w fs (F.Leaves z) steps fs (E.Returned v) h σ given steps entries true in
+        subst P (sym e) (on-leaves-return i v ev q) ld

@@ -33,6 +33,14 @@ module _ (a : ValueSlots) (d k : ℕ) (v : Val) (e : value-at d a k ≡ Some v) 
       go zero e = none-some v e
       go (suc d) e = let p = bound (nth (a .values) k) (val-of a (value-of d a)) v e in nth-in (a .values) k (p .0) (p .1)
 
+  pub value-deep : 0 < d
+  unfolding value-at
+  value-deep = go d e
+    where
+      go : (d : ℕ) → value-of d a k ≡ Some v → 0 < d
+      go zero e = none-some v e
+      go (suc d) e = omega arith
+
   value-open : (z : ReactiveValue) → nth (a .values) k ≡ Some z → (0 < d) × (val-of a (value-of (d - 1) a) z ≡ Some v)
   unfolding value-at
   value-open z at = go d e
@@ -105,8 +113,7 @@ module _ (a : ValueSlots) (d : ℕ) (r : Range) (is : Instrs) (e : instrs-at d a
       let s = sym (ap (instrs-of (value-of d a)) (q .1)) ∙ p .2 in
       let t = bound (instr-of (value-of d a) i) _ is s in
       let u = bound (instrs-of (value-of d a) (q .0)) _ is (t .2) in
-      let w = bound (value-of d a (i .value)) _ (t .0) (t .1) in
-      (
+      let w = bound (value-of d a (i .value)) _ (t .0) (t .1) in (
         w .0,
         u .0,
         sym (some-is (u .2)) ∙ ap (λ (x : Instr). icons x (u .0)) (sym (some-is (w .2))),
@@ -126,6 +133,9 @@ module _ (a : Slots) (d : ℕ) (r : Range) (b : Block) (e : block-at d a r ≡ S
           let s : d ≡ suc d - 1 = omega arith in
           (omega arith, subst (λ (n : ℕ). bind (part (a .entries) r) (body-of (slot-of a (block-of n a))) ≡ Some b) s e)
 
+  pub block-deep : 0 < d
+  block-deep = block-open .0
+
   pub block-in : r .start + r .count ≤ length (a .entries)
   block-in = let p = bound (part (a .entries) r) _ b (block-open .1) in row-in (a .entries) (p .0) r (p .1) .0
 
@@ -144,8 +154,7 @@ module _ (a : Slots) (d : ℕ) (r : Range) (b : Block) (e : block-at d a r ≡ S
       let q = row-cons (a .entries) (p .0) r k (p .1) h at in
       let s = sym (ap (body-of (slot-of a (block-of (d - 1) a))) (q .1)) ∙ p .2 in
       let t = bound (slot-of a (block-of (d - 1) a) k) _ b s in
-      let u = bound (body-of (slot-of a (block-of (d - 1) a)) (q .0)) _ b (t .2) in
-      (
+      let u = bound (body-of (slot-of a (block-of (d - 1) a)) (q .0)) _ b (t .2) in (
         t .0,
         u .0,
         sym (some-is (u .2)),

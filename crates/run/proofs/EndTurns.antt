@@ -23,9 +23,9 @@ use Rattle.run.specs.declared.frame.Frame.the-variants as F
 use Rattle.run.specs.Exits.{exit-from, onto, takes}
 use Rattle.run.specs.Frames.{Means}
 use Rattle.run.specs.Tasks.{Loop, testFirst, blockFirst, updating, Task, block, begun, value, assigns, instrs, afterLeft, afterTest, leaves, endsLabel, endsLoop, endsSwitch, endsRound, starts, rounds, tests, selects, cases, catches, around, act, resume, runs, wV, wIs, wB, wK, wTests, weight, weights, owing, owed}
-use Rattle.run.specs.Turn.{Leads, Calm, result, state-of, kept}
+use Rattle.run.specs.Turn.{Leads, Next, Calm, result, state-of, kept}
 use Rattle.run.proofs.Stack.{Opened, opened, closes}
-use Rattle.run.proofs.Turning.{Next, calm-false}
+use Rattle.run.proofs.Turning.{calm-false, next}
 
 result-from : {S : Type 0} (o : Out) (s : State S) → result (exit-from o) s ≡ done o s
 result-from normal s = refl
@@ -137,7 +137,6 @@ module _ {S : Type 0} (H : Meaning S) (B : ℕ) (rec : ℕ → Option ℕ) (a : 
 
 module _ {S : Type 0} (H : Meaning S) (B : ℕ) (rec : ℕ → Option ℕ) (a : Slots) (W : ℕ) (w : Result S) (fs : List Frame) {x : Exit}
     {h : S} {σ : List ℕ} {given steps entries : ℕ} {recorded : Bool} where
-
   ends : (f : Frame) (t : Task) (g : Out → Out) → ((v : ℕ) → g (returned v) ≡ returned v) → (o : Opened H B rec a W w fs f x h σ given steps entries recorded) → o .task ≡ t
       → ((A : Around) (r : Result S) → act H B rec A t r ≡ mapOut g r) → weight t ≡ 1 → owing t ≡ 0
       → Next H B rec a W w fs f steps fs (onto g x) h σ given steps entries recorded
@@ -146,10 +145,10 @@ module _ {S : Type 0} (H : Meaning S) (B : ℕ) (rec : ℕ → Option ℕ) (a : 
       let same = subst (λ (u : Task). resume H B rec (o .kont) (act H B rec (around (o .kont)) u (result x s)) ≡ w) is (o .same) in
       let c = rw is at (o .counted) in
       let lt : weights (o .kont) < weight (o .task) + weights (o .kont) = rw (is, w1) (omega arith) in
-      closes H B rec a W w o fs (onto g x) h σ given entries recorded (o .kont) (o .stacked) lt
+      next (closes H B rec a W w o fs (onto g x) h σ given entries recorded (o .kont) (o .stacked) lt
       (ap (resume H B rec (o .kont)) (result-onto g x s ∙ sym (e (around (o .kont)) (result x s))) ∙ same)
       (omega arith)
-      (calm-onto g gr x recorded (o .calm))
+      (calm-onto g gr x recorded (o .calm)))
 
   pub on-ends-label : (m : Option ℕ) → Leads H B rec a W w (fs ++ F.EndsLabel m ∷ []) x h σ given steps entries recorded
       → Next H B rec a W w fs (F.EndsLabel m) steps fs (onto (endLabel m) x) h σ given steps entries recorded
@@ -178,10 +177,10 @@ module _ {S : Type 0} (H : Meaning S) (B : ℕ) (rec : ℕ → Option ℕ) (a : 
       let c = rw (m .1) at (o .counted) in
       let lt : wB (m .0) + weights (o .kont) < weight (o .task) + weights (o .kont) = rw (m .1) (omega arith) in
       let same = subst (λ (u : Task). resume H B rec (o .kont) (act H B rec (around (o .kont)) u (done (threw v) (state-of h σ given steps entries recorded))) ≡ w) (m .1) (o .same) in
-      closes H B rec a W w o (fs ++ F.Block r d ∷ []) E.Normal h σ′ v entries recorded (block (m .0) ∷ o .kont) (F.Block r d, fs, refl, (m .0, refl, m .2, m .3), o .stacked) lt
+      next (closes H B rec a W w o (fs ++ F.Block r d ∷ []) E.Normal h σ′ v entries recorded (block (m .0) ∷ o .kont) (F.Block r d, fs, refl, (m .0, refl, m .2, m .3), o .stacked) lt
       (ap (λ (s : State S). resume H B rec (o .kont) (runs H B rec (aimB (m .0) (around (o .kont))) s)) (assigned p es) ∙ same)
       (omega arith)
-      (o .calm)
+      (o .calm))
     where
       assigned : (p : Option Place) → σ′ ≡ kept p σ v → state-of h σ′ v steps entries recorded ≡ assign p (gave (state-of h σ given steps entries recorded) v)
       assigned None e = rw e
@@ -193,7 +192,7 @@ module _ {S : Type 0} (H : Meaning S) (B : ℕ) (rec : ℕ → Option ℕ) (a : 
       → Next H B rec a W w fs f steps fs x h σ given steps entries recorded
   passed f o lt e =
       let c = o .counted in
-      closes H B rec a W w o fs x h σ given entries recorded (o .kont) (o .stacked) (omega arith) (ap (resume H B rec (o .kont)) (sym e) ∙ o .same) (omega arith) (o .calm)
+      next (closes H B rec a W w o fs x h σ given entries recorded (o .kont) (o .stacked) (omega arith) (ap (resume H B rec (o .kont)) (sym e) ∙ o .same) (omega arith) (o .calm))
 
   pub on-catches-passed : (p : Option Place) (r : Range) (d : ℕ) → ((v : ℕ) → x ≡ E.Threw v → ⊥)
       → Leads H B rec a W w (fs ++ F.Catches p r d ∷ []) x h σ given steps entries recorded
@@ -209,3 +208,72 @@ module _ {S : Type 0} (H : Meaning S) (B : ℕ) (rec : ℕ → Option ℕ) (a : 
   on-passed f e no-normal ld =
       let o = opened H B rec a W w {fs = fs} {f = f} ld in
       passed f o (weight-positive (o .task)) (passes H B rec a W x f (o .task) (around (o .kont)) steps (length fs) (weights (o .kont)) (o .means) e no-normal (state-of h σ given steps entries recorded))
+
+-- ---- a frame that pushes others has room for them
+abbrev pub Low : ℕ → Frame → Type 0
+Low n (F.Block r d) = n ≤ 1000
+Low n (F.Statement k d) = n ≤ 1000
+Low n (F.Value k d) = n ≤ 1000
+Low n (F.Assigns p) = Unit {0}
+Low n (F.Instructions r d) = n ≤ 1000
+Low n (F.AfterLeft p k d) = n ≤ 1000
+Low n (F.AfterTest k l d) = n ≤ 1000
+Low n (F.Leaves y) = Unit {0}
+Low n (F.EndsLabel l) = Unit {0}
+Low n (F.EndsLoop l) = Unit {0}
+Low n (F.EndsSwitch l) = Unit {0}
+Low n (F.EndsRound l) = Unit {0}
+Low n (F.Starts l b d) = n ≤ 1000
+Low n (F.Rounds l b d) = n ≤ 1000
+Low n (F.Tests l b d) = n ≤ 1000
+Low n (F.Selects c b d) = n ≤ 1000
+Low n (F.Cases r d) = n ≤ 1000
+Low n (F.Catches p r d) = n ≤ 1000
+
+low : (a : Slots) (B W s n w : ℕ) (f : Frame) (t : Task) → Means a B W s n w f t → Low n f
+low a B W s n w (F.Block r d) t m = let r = m .3 in omega arith
+low a B W s n w (F.Statement k d) t m = let r = m .3 in omega arith
+low a B W s n w (F.Value k d) t m = let r = m .3 in omega arith
+low a B W s n w (F.Assigns p) t m = tt
+low a B W s n w (F.Instructions r d) t m = let r = m .3 in omega arith
+low a B W s n w (F.AfterLeft p k d) t m = let r = m .3 in omega arith
+low a B W s n w (F.AfterTest k l d) t m = let r = m .5 in omega arith
+low a B W s n w (F.Leaves y) t m = tt
+low a B W s n w (F.EndsLabel l) t m = tt
+low a B W s n w (F.EndsLoop l) t m = tt
+low a B W s n w (F.EndsSwitch l) t m = tt
+low a B W s n w (F.EndsRound l) t m = tt
+low a B W s n w (F.Starts l b d) t m = let r = m .3 in omega arith
+low a B W s n w (F.Rounds l b d) t m = let r = m .4 in omega arith
+low a B W s n w (F.Tests l b d) t m = let r = m .3 in omega arith
+low a B W s n w (F.Selects c b d) t m = let r = m .7 in omega arith
+low a B W s n w (F.Cases r d) t m = let r = m .3 in omega arith
+low a B W s n w (F.Catches p r d) t m = let r = m .3 in omega arith
+
+pub room-of : {S : Type 0} {H : Meaning S} {B : ℕ} {rec : ℕ → Option ℕ} {a : Slots} {W : ℕ} {w : Result S} (fs : List Frame) (f : Frame) {x : Exit} {h : S} {σ : List ℕ}
+    {given steps entries : ℕ} {recorded : Bool} → Leads H B rec a W w (fs ++ f ∷ []) x h σ given steps entries recorded → Low (length fs) f
+room-of {H = H} {B = B} {rec = rec} {a = a} {W = W} {w = w} fs f {steps = steps} ld =
+    let o = opened H B rec a W w {fs = fs} {f = f} ld in
+    low a B W steps (length fs) (weights (o .kont)) f (o .task) (o .means)
+
+-- a frame that takes no more than a normal end
+pub takes-none : (f : Frame) → ((m : Option ℕ) → f ≡ F.EndsLabel m → ⊥) → ((m : Option ℕ) → f ≡ F.EndsLoop m → ⊥) → ((m : Option ℕ) → f ≡ F.EndsSwitch m → ⊥) → ((m : Option ℕ) → f ≡ F.EndsRound m → ⊥)
+    → ((p : Option Place) (r : Range) (d : ℕ) → f ≡ F.Catches p r d → ⊥) → takes f ≡ false
+takes-none (F.Block r d) p1 p2 p3 p4 p5 = refl
+takes-none (F.Statement k d) p1 p2 p3 p4 p5 = refl
+takes-none (F.Value k d) p1 p2 p3 p4 p5 = refl
+takes-none (F.Assigns p) p1 p2 p3 p4 p5 = refl
+takes-none (F.Instructions r d) p1 p2 p3 p4 p5 = refl
+takes-none (F.AfterLeft p k d) p1 p2 p3 p4 p5 = refl
+takes-none (F.AfterTest k l d) p1 p2 p3 p4 p5 = refl
+takes-none (F.Leaves y) p1 p2 p3 p4 p5 = refl
+takes-none (F.EndsLabel l) p1 p2 p3 p4 p5 = absurd (p1 _ refl)
+takes-none (F.EndsLoop l) p1 p2 p3 p4 p5 = absurd (p2 _ refl)
+takes-none (F.EndsSwitch l) p1 p2 p3 p4 p5 = absurd (p3 _ refl)
+takes-none (F.EndsRound l) p1 p2 p3 p4 p5 = absurd (p4 _ refl)
+takes-none (F.Starts l b d) p1 p2 p3 p4 p5 = refl
+takes-none (F.Rounds l b d) p1 p2 p3 p4 p5 = refl
+takes-none (F.Tests l b d) p1 p2 p3 p4 p5 = refl
+takes-none (F.Selects c b d) p1 p2 p3 p4 p5 = refl
+takes-none (F.Cases r d) p1 p2 p3 p4 p5 = refl
+takes-none (F.Catches p r d) p1 p2 p3 p4 p5 = absurd (p5 _ _ _ refl)

@@ -3,8 +3,11 @@
 use mathlib.Core.Path.{_≡_, refl, sym, ap, _∙_, subst}
 use mathlib.Core.Bool.{Bool, true, false, _||_}
 use mathlib.Core.List.{List, [], _∷_, _++_}
-use Prim.Native.Nat.{ℕ}
-use lib.ListN.{length}
+use Prim.Native.Nat.{ℕ, zero, suc, _+_, _<_}
+use native.Mathlib.Omega.{arith}
+use native.Mathlib.Numerals.{add-one}
+use lib.Seq.{take-suc}
+use lib.ListN.{length, getD, take}
 use lib.Dec.{eqb}
 use Rattle.std.specs.declared.option.Option.{Option}
 use Rattle.std.specs.declared.option.Option.the-variants.{Some, None}
@@ -86,3 +89,17 @@ any-found a B W s τ fs [] e = ap (any τ) e ∙ sym (none-around τ)
 any-found a B W s τ fs (t ∷ k) m =
     ap (any τ) (m .2) ∙ any-snoc τ (m .1) (m .0) ∙ ap (λ (b : Bool). aims τ (m .0) || b) (any-found a B W s τ (m .1) k (m .4))
     ∙ sym (stepped-in a B W s τ (around k) (length (m .1)) (weights k) (m .0) t (m .3))
+
+-- ---- a walk over the frames
+pub any-hit : (τ : Target) (fs : List Frame) (i : ℕ) (f : Frame) → i < length fs → aims τ (getD fs i f) ≡ true → true ≡ any τ fs
+any-hit τ [] i f h e = absurd (omega arith)
+any-hit τ (g ∷ fs) zero f h e = ap (λ (b : Bool). b || any τ fs) (sym e)
+any-hit τ (g ∷ fs) (suc i) f h e = or-true (aims τ g) (any τ fs) (any-hit τ fs i f (omega arith) e)
+  where
+    or-true : (a b : Bool) → true ≡ b → true ≡ (a || b)
+    or-true true b e = refl
+    or-true false b e = e
+
+pub any-more : (τ : Target) (fs : List Frame) (i : ℕ) (f : Frame) → i < length fs → any τ (take i fs) ≡ false → aims τ (getD fs i f) ≡ false → any τ (take (i + 1) fs) ≡ false
+any-more τ fs i f h e e′ =
+    ap (any τ) (ap (λ (n : ℕ). take n fs) (add-one i) ∙ take-suc fs i f h) ∙ any-snoc τ (take i fs) (getD fs i f) ∙ ap (λ (b : Bool). b || any τ (take i fs)) e′ ∙ e

@@ -4,10 +4,11 @@ pub mod Stack
 pub mod Turning
 pub mod ValueTurns
 pub mod StepTurns
-pub mod Statements
+pub mod StatementParts
 pub mod BlockTurns
 pub mod LoopTurns
 pub mod EndTurns
 pub mod Jumps
 pub mod TerminalTurns
 pub mod SwitchTurns
+pub mod Records

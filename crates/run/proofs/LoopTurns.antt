@@ -25,11 +25,11 @@ use Rattle.run.specs.declared.frame.Frame.{Frame}
 use Rattle.run.specs.declared.frame.Frame.the-variants as F
 use Rattle.run.specs.Frames.{value-at, block-at, loop-at}
 use Rattle.run.specs.Tasks.{Loop, testFirst, blockFirst, updating, Task, block, value, endsLoop, endsRound, starts, rounds, tests, around, act, resume, runs, values, afterYes, roundOf, wLoop, wTests, weights}
-use Rattle.run.specs.Turn.{Leads, state-of, test-of}
+use Rattle.run.specs.Turn.{Leads, Next, state-of, test-of}
 use Rattle.run.proofs.Rows.{bound, some-is}
 use Rattle.run.proofs.Stack.{Opened, later}
-use Rattle.run.proofs.Statements.{top-at}
-use Rattle.run.proofs.Turning.{Next, top, stay, goes, paying, snoc-length}
+use Rattle.run.proofs.StatementParts.{top-at}
+use Rattle.run.proofs.Turning.{top, stay, goes, paying, snoc-length}
 
 -- ---- the parts of a loop
 module _ (a : Slots) (d : ℕ) (l : Loop) where
@@ -94,7 +94,7 @@ module _ {S : Type 0} (H : Meaning S) (B : ℕ) (rec : ℕ → Option ℕ) (a : 
   -- the round of a loop whose block comes first, one part after the other
   parted : (c : Block) (v : Val) (m : Option ℕ) (A : Around) (s : State S)
       → bind (bind (mapOut (endRound m) (runs H B rec (aimB c A) s)) (λ u. values H B rec v u)) (λ t. test H 0 (afterYes H B rec (blockFirst c v) m A) (λ u. done (broke None) u) t)
-        ≡ roundOf H B rec (blockFirst c v) m A s
+      ≡ roundOf H B rec (blockFirst c v) m A s
   parted c v m A s = bind-assoc (mapOut (endRound m) (runs H B rec (aimB c A) s)) (λ u. values H B rec v u) (λ t. test H 0 (λ u. done normal u) (λ u. done (broke None) u) t)
 
   module _ (fs : List Frame) {x : Exit} {h : S} {σ : List ℕ} {given steps entries : ℕ} {recorded : Bool} (n : x ≡ E.Normal) where
@@ -127,7 +127,6 @@ module _ {S : Type 0} (H : Meaning S) (B : ℕ) (rec : ℕ → Option ℕ) (a : 
         (omega arith)
 
     module _ (m : Option ℕ) (d : ℕ) (b : steps < B) where
-
       pub on-rounds-test-first : (v : ℕ) (r : Range)
           → Leads H B rec a W w (fs ++ F.Rounds (TestFirst v r) m d ∷ []) x h σ given steps entries recorded
           → Next H B rec a W w fs (F.Rounds (TestFirst v r) m d) steps (((fs ++ F.Rounds (TestFirst v r) m d ∷ []) ++ F.Tests (TestFirst v r) m d ∷ []) ++ F.Value v 64 ∷ []) x h σ given (steps + 1) entries recorded
@@ -148,10 +147,19 @@ module _ {S : Type 0} (H : Meaning S) (B : ℕ) (rec : ℕ → Option ℕ) (a : 
           let e = iter-step (roundOf H B rec (testFirst (p .0) (p .1)) m (around (o .kont))) (q .1) f′ (state-of h σ given steps entries recorded) ef (lt-ltb steps B b) in
           let dec : loop-at d a l ≡ Some (testFirst (p .0) (p .1)) = q .3 ∙ ap (λ (z : Loop). Some z) (p .2) in
           paying H B rec a W w o (rounds (testFirst (p .0) (p .1)) m (q .1)) (q .2 ∙ ap (λ (z : Loop). rounds z m (q .1)) (p .2)) _
-          (value (p .0) ∷ tests (testFirst (p .0) (p .1)) m ∷ rounds (testFirst (p .0) (p .1)) m f′ ∷ o .kont) n h σ given entries
-          (F.Value v 64, g ++ F.Tests l m d ∷ [], refl, (p .0, refl, p .3, omega arith),
-          (F.Tests l m d, g, refl, (testFirst (p .0) (p .1), refl, dec, omega arith),
-          (F.Rounds l m d, fs, refl, (testFirst (p .0) (p .1), f′, refl, dec, omega arith, omega arith, wide), later a B W steps (suc steps) fs (o .kont) (omega arith) (o .stacked))))
+          (value (p .0) ∷ tests (testFirst (p .0) (p .1)) m ∷ rounds (testFirst (p .0) (p .1)) m f′ ∷ o .kont) n h σ given entries (
+            F.Value v 64,
+            g ++ F.Tests l m d ∷ [],
+            refl,
+            (p .0, refl, p .3, omega arith),
+            (
+              F.Tests l m d,
+              g,
+              refl,
+              (testFirst (p .0) (p .1), refl, dec, omega arith),
+              (F.Rounds l m d, fs, refl, (testFirst (p .0) (p .1), f′, refl, dec, omega arith, omega arith, wide), later a B W steps (suc steps) fs (o .kont) (omega arith) (o .stacked)),
+            ),
+          )
           (omega arith)
           b
           (ap (resume H B rec (o .kont)) (sym e))
@@ -178,10 +186,19 @@ module _ {S : Type 0} (H : Meaning S) (B : ℕ) (rec : ℕ → Option ℕ) (a : 
           let e = iter-step (roundOf H B rec y m (around (o .kont))) (q .1) f′ (state-of h σ given steps entries recorded) ef (lt-ltb steps B b) in
           let dec : loop-at d a l ≡ Some y = q .3 ∙ ap (λ (z : Loop). Some z) (p .3) in
           paying H B rec a W w o (rounds y m (q .1)) (q .2 ∙ ap (λ (z : Loop). rounds z m (q .1)) (p .3)) _
-          (value (p .0) ∷ tests y m ∷ rounds y m f′ ∷ o .kont) n h σ given entries
-          (F.Value v 64, g ++ F.Tests l m d ∷ [], refl, (p .0, refl, p .4, omega arith),
-          (F.Tests l m d, g, refl, (y, refl, dec, omega arith),
-          (F.Rounds l m d, fs, refl, (y, f′, refl, dec, omega arith, omega arith, wide), later a B W steps (suc steps) fs (o .kont) (omega arith) (o .stacked))))
+          (value (p .0) ∷ tests y m ∷ rounds y m f′ ∷ o .kont) n h σ given entries (
+            F.Value v 64,
+            g ++ F.Tests l m d ∷ [],
+            refl,
+            (p .0, refl, p .4, omega arith),
+            (
+              F.Tests l m d,
+              g,
+              refl,
+              (y, refl, dec, omega arith),
+              (F.Rounds l m d, fs, refl, (y, f′, refl, dec, omega arith, omega arith, wide), later a B W steps (suc steps) fs (o .kont) (omega arith) (o .stacked)),
+            ),
+          )
           (omega arith)
           b
           (ap (resume H B rec (o .kont)) (sym e))
@@ -190,7 +207,7 @@ module _ {S : Type 0} (H : Meaning S) (B : ℕ) (rec : ℕ → Option ℕ) (a : 
       pub on-rounds-block-first : (r : Range) (v : ℕ)
           → Leads H B rec a W w (fs ++ F.Rounds (BlockFirst r v) m d ∷ []) x h σ given steps entries recorded
           → Next H B rec a W w fs (F.Rounds (BlockFirst r v) m d) steps
-            (((((fs ++ F.Rounds (BlockFirst r v) m d ∷ []) ++ F.Tests (BlockFirst r v) m d ∷ []) ++ F.Value v 64 ∷ []) ++ F.EndsRound m ∷ []) ++ F.Block r d ∷ []) x h σ given (steps + 1) entries recorded
+          (((((fs ++ F.Rounds (BlockFirst r v) m d ∷ []) ++ F.Tests (BlockFirst r v) m d ∷ []) ++ F.Value v 64 ∷ []) ++ F.EndsRound m ∷ []) ++ F.Block r d ∷ []) x h σ given (steps + 1) entries recorded
       unfolding bind
       on-rounds-block-first r v ld =
           let l = BlockFirst r v in
@@ -214,12 +231,31 @@ module _ {S : Type 0} (H : Meaning S) (B : ℕ) (rec : ℕ → Option ℕ) (a : 
           let dec : loop-at d a l ≡ Some y = q .3 ∙ ap (λ (z : Loop). Some z) (p .2) in
           let at-round = later a B W steps (suc steps) fs (o .kont) (omega arith) (o .stacked) in
           paying H B rec a W w o (rounds y m (q .1)) (q .2 ∙ ap (λ (z : Loop). rounds z m (q .1)) (p .2)) _
-          (block (p .1) ∷ endsRound m ∷ value (p .0) ∷ tests y m ∷ rounds y m f′ ∷ o .kont) n h σ given entries
-          (F.Block r d, g″ ++ F.EndsRound m ∷ [], refl, (p .1, refl, p .4, omega arith),
-          (F.EndsRound m, g″, refl, refl,
-          (F.Value v 64, g′, refl, (p .0, refl, p .3, omega arith),
-          (F.Tests l m d, g, refl, (y, refl, dec, omega arith),
-          (F.Rounds l m d, fs, refl, (y, f′, refl, dec, omega arith, omega arith, wide), at-round)))))
+          (block (p .1) ∷ endsRound m ∷ value (p .0) ∷ tests y m ∷ rounds y m f′ ∷ o .kont) n h σ given entries (
+            F.Block r d,
+            g″ ++ F.EndsRound m ∷ [],
+            refl,
+            (p .1, refl, p .4, omega arith),
+            (
+              F.EndsRound m,
+              g″,
+              refl,
+              refl,
+              (
+                F.Value v 64,
+                g′,
+                refl,
+                (p .0, refl, p .3, omega arith),
+                (
+                  F.Tests l m d,
+                  g,
+                  refl,
+                  (y, refl, dec, omega arith),
+                  (F.Rounds l m d, fs, refl, (y, f′, refl, dec, omega arith, omega arith, wide), at-round),
+                ),
+              ),
+            ),
+          )
           (omega arith)
           b
           (ap (λ (r : Result S). resume H B rec (o .kont) (bind r (λ s. iter H (within H B) (roundOf H B rec y m (around (o .kont))) f′ s))) (parted (p .1) (p .0) m (around (o .kont)) (state-of h σ given (suc steps) entries recorded)) ∙ ap (resume H B rec (o .kont)) (sym e))
@@ -310,3 +346,66 @@ module _ {S : Type 0} (H : Meaning S) (B : ℕ) (rec : ℕ → Option ℕ) (a : 
             (omega arith)
             (rw (eh, ← ea, e0) (ap (resume H B rec (o .kont)) (sym (bind-done _))))
             (omega arith)
+
+    -- ---- by what the frame names
+    module _ (m : Option ℕ) (d : ℕ) where
+      module _ (b : steps < B) where
+        pub rounds-test-first : (l : Repeated) (v : ℕ) (r : Range) → l ≡ TestFirst v r
+            → Leads H B rec a W w (fs ++ F.Rounds l m d ∷ []) x h σ given steps entries recorded
+            → Next H B rec a W w fs (F.Rounds l m d) steps (((fs ++ F.Rounds l m d ∷ []) ++ F.Tests l m d ∷ []) ++ F.Value v 64 ∷ []) x h σ given (steps + 1) entries recorded
+        rounds-test-first l v r e ld =
+            let P : Repeated → Type 0 = λ l. Leads H B rec a W w (fs ++ F.Rounds l m d ∷ []) x h σ given steps entries recorded → Next H B rec a W w fs (F.Rounds l m d) steps (((fs ++ F.Rounds l m d ∷ []) ++ F.Tests l m d ∷ []) ++ F.Value v 64 ∷ []) x h σ given (steps + 1) entries recorded in
+            subst P (sym e) (on-rounds-test-first m d b v r) ld
+
+        pub rounds-updating : (l : Repeated) (v : ℕ) (u : Option ℕ) (r : Range) → l ≡ Updating v u r
+            → Leads H B rec a W w (fs ++ F.Rounds l m d ∷ []) x h σ given steps entries recorded
+            → Next H B rec a W w fs (F.Rounds l m d) steps (((fs ++ F.Rounds l m d ∷ []) ++ F.Tests l m d ∷ []) ++ F.Value v 64 ∷ []) x h σ given (steps + 1) entries recorded
+        rounds-updating l v u r e ld =
+            let P : Repeated → Type 0 = λ l. Leads H B rec a W w (fs ++ F.Rounds l m d ∷ []) x h σ given steps entries recorded → Next H B rec a W w fs (F.Rounds l m d) steps (((fs ++ F.Rounds l m d ∷ []) ++ F.Tests l m d ∷ []) ++ F.Value v 64 ∷ []) x h σ given (steps + 1) entries recorded in
+            subst P (sym e) (on-rounds-updating m d b v u r) ld
+
+        pub rounds-block-first : (l : Repeated) (r : Range) (v : ℕ) → l ≡ BlockFirst r v
+            → Leads H B rec a W w (fs ++ F.Rounds l m d ∷ []) x h σ given steps entries recorded
+            → Next H B rec a W w fs (F.Rounds l m d) steps (((((fs ++ F.Rounds l m d ∷ []) ++ F.Tests l m d ∷ []) ++ F.Value v 64 ∷ []) ++ F.EndsRound m ∷ []) ++ F.Block r d ∷ []) x h σ given (steps + 1) entries recorded
+        rounds-block-first l r v e ld =
+            let P : Repeated → Type 0 = λ l. Leads H B rec a W w (fs ++ F.Rounds l m d ∷ []) x h σ given steps entries recorded → Next H B rec a W w fs (F.Rounds l m d) steps (((((fs ++ F.Rounds l m d ∷ []) ++ F.Tests l m d ∷ []) ++ F.Value v 64 ∷ []) ++ F.EndsRound m ∷ []) ++ F.Block r d ∷ []) x h σ given (steps + 1) entries recorded in
+            subst P (sym e) (on-rounds-block-first m d b r v) ld
+
+      module _ (v : ℕ) (h′ : S) (eh : h′ ≡ H .next h (test-of 0 given)) (ea : Value v ≡ H .answer h (test-of 0 given)) (e0 : eqb v 0 ≡ false) where
+        pub tests-test-first : (l : Repeated) (k : ℕ) (r : Range) → l ≡ TestFirst k r
+            → Leads H B rec a W w (fs ++ F.Tests l m d ∷ []) x h σ given steps entries recorded
+            → Next H B rec a W w fs (F.Tests l m d) steps ((fs ++ F.EndsRound m ∷ []) ++ F.Block r d ∷ []) x h′ σ v steps entries recorded
+        tests-test-first l k r e ld =
+            let P : Repeated → Type 0 = λ l. Leads H B rec a W w (fs ++ F.Tests l m d ∷ []) x h σ given steps entries recorded → Next H B rec a W w fs (F.Tests l m d) steps ((fs ++ F.EndsRound m ∷ []) ++ F.Block r d ∷ []) x h′ σ v steps entries recorded in
+            subst P (sym e) (on-tests-test-first m d v h′ eh ea e0 k r) ld
+
+        pub tests-block-first : (l : Repeated) (r : Range) (k : ℕ) → l ≡ BlockFirst r k
+            → Leads H B rec a W w (fs ++ F.Tests l m d ∷ []) x h σ given steps entries recorded
+            → Next H B rec a W w fs (F.Tests l m d) steps fs x h′ σ v steps entries recorded
+        tests-block-first l r k e ld =
+            let P : Repeated → Type 0 = λ l. Leads H B rec a W w (fs ++ F.Tests l m d ∷ []) x h σ given steps entries recorded → Next H B rec a W w fs (F.Tests l m d) steps fs x h′ σ v steps entries recorded in
+            subst P (sym e) (on-tests-block-first m d v h′ eh ea e0 r k) ld
+
+        pub tests-update : (l : Repeated) (k : ℕ) (u : ℕ) (r : Range) → l ≡ Updating k (Some u) r
+            → Leads H B rec a W w (fs ++ F.Tests l m d ∷ []) x h σ given steps entries recorded
+            → Next H B rec a W w fs (F.Tests l m d) steps (((fs ++ F.Value u 64 ∷ []) ++ F.EndsRound m ∷ []) ++ F.Block r d ∷ []) x h′ σ v steps entries recorded
+        tests-update l k u r e ld =
+            let P : Repeated → Type 0 = λ l. Leads H B rec a W w (fs ++ F.Tests l m d ∷ []) x h σ given steps entries recorded → Next H B rec a W w fs (F.Tests l m d) steps (((fs ++ F.Value u 64 ∷ []) ++ F.EndsRound m ∷ []) ++ F.Block r d ∷ []) x h′ σ v steps entries recorded in
+            subst P (sym e) (on-tests-update m d v h′ eh ea e0 k u r) ld
+
+        pub tests-no-update : (l : Repeated) (k : ℕ) (r : Range) → l ≡ Updating k None r
+            → Leads H B rec a W w (fs ++ F.Tests l m d ∷ []) x h σ given steps entries recorded
+            → Next H B rec a W w fs (F.Tests l m d) steps ((fs ++ F.EndsRound m ∷ []) ++ F.Block r d ∷ []) x h′ σ v steps entries recorded
+        tests-no-update l k r e ld =
+            let P : Repeated → Type 0 = λ l. Leads H B rec a W w (fs ++ F.Tests l m d ∷ []) x h σ given steps entries recorded → Next H B rec a W w fs (F.Tests l m d) steps ((fs ++ F.EndsRound m ∷ []) ++ F.Block r d ∷ []) x h′ σ v steps entries recorded in
+            subst P (sym e) (on-tests-no-update m d v h′ eh ea e0 k r) ld
+
+        pub tests-updating : (l : Repeated) (k : ℕ) (o : Option ℕ) (u : ℕ) (r : Range) → l ≡ Updating k o r → o ≡ Some u
+            → Leads H B rec a W w (fs ++ F.Tests l m d ∷ []) x h σ given steps entries recorded
+            → Next H B rec a W w fs (F.Tests l m d) steps (((fs ++ F.Value u 64 ∷ []) ++ F.EndsRound m ∷ []) ++ F.Block r d ∷ []) x h′ σ v steps entries recorded
+        tests-updating l k o u r e eo ld = tests-update l k u r (e ∙ ap (λ (z : Option ℕ). Updating k z r) eo) ld
+
+        pub tests-not-updating : (l : Repeated) (k : ℕ) (o : Option ℕ) (r : Range) → l ≡ Updating k o r → o ≡ None
+            → Leads H B rec a W w (fs ++ F.Tests l m d ∷ []) x h σ given steps entries recorded
+            → Next H B rec a W w fs (F.Tests l m d) steps ((fs ++ F.EndsRound m ∷ []) ++ F.Block r d ∷ []) x h′ σ v steps entries recorded
+        tests-not-updating l k o r e eo ld = tests-no-update l k r (e ∙ ap (λ (z : Option ℕ). Updating k z r) eo) ld

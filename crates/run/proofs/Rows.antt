@@ -5,7 +5,6 @@ use mathlib.Core.Bool.{Bool, true, false, cond}
 use mathlib.Core.List.{List, [], _∷_, _++_}
 use Prim.Native.Nat.{ℕ, zero, suc, _+_, _-_, _≤_, _<_, suc-le-suc}
 use native.Mathlib.Omega.{arith}
-
 use native.Mathlib.Numerals.{add-one}
 use borrow.Author.Tests.{leb-true}
 use lib.Dec.{leb}
@@ -26,6 +25,10 @@ bound (Some x) f y e = (x, refl, e)
 
 pub some-is : {X : Type 0} {x y : X} → _≡_ {A = Option X} (Some x) (Some y) → x ≡ y
 some-is e = cc
+
+pub none-of : {X : Type 0} (o : Option X) → ((x : X) → o ≡ Some x → ⊥) → o ≡ None
+none-of None h = refl
+none-of (Some x) h = absurd (h x refl)
 
 pub nth-in : {X : Type 0} (xs : List X) (k : ℕ) (x : X) → nth xs k ≡ Some x → k < length xs
 nth-in [] k x e = none-some x e
@@ -66,8 +69,7 @@ row-cons {X = X} xs ys r x e p at =
     let h = row-in xs ys r e in
     let s : r .count ≡ suc (r .count - 1) = omega arith in
     let q : take (r .count) (drop (r .start) xs) ≡ x ∷ take (r .count - 1) (drop (suc (r .start)) xs) =
-        ap (λ (n : ℕ). take n (drop (r .start) xs)) s ∙ ap (λ (l : List X). take (suc (r .count - 1)) l) (drop-nth xs (r .start) x at) in
-    (
+    ap (λ (n : ℕ). take n (drop (r .start) xs)) s ∙ ap (λ (l : List X). take (suc (r .count - 1)) l) (drop-nth xs (r .start) x at) in (
       take (r .count - 1) (drop (r .start + 1) xs),
       h .1 ∙ q ∙ ap (λ (n : ℕ). x ∷ take (r .count - 1) (drop n xs)) (sym (add-one (r .start))),
       row-of xs (behind r 1) (let b = h .0 in omega arith),

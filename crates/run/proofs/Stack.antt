@@ -136,7 +136,7 @@ module _ {S : Type 0} (H : Meaning S) (B : ℕ) (rec : ℕ → Option ℕ) (a : 
         go (t ∷ k) m light same counted =
             let e = snoc-same fs (m .1) f (m .0) (m .2) in
             let means : Means a B W steps (length fs) (weights k) f t =
-                subst (λ (r : List Frame). Means a B W steps (length r) (weights k) f t) (sym (e .0)) (subst (λ (g : Frame). Means a B W steps (length (m .1)) (weights k) g t) (sym (e .1)) (m .3)) in
+            subst (λ (r : List Frame). Means a B W steps (length r) (weights k) f t) (sym (e .0)) (subst (λ (g : Frame). Means a B W steps (length (m .1)) (weights k) g t) (sym (e .1)) (m .3)) in
             record {
               task = t;
               kont = k;
@@ -158,9 +158,10 @@ module _ {S : Type 0} (H : Meaning S) (B : ℕ) (rec : ℕ → Option ℕ) (a : 
       closes m l e c q =
           let v = weighs-all a B W steps gs k m in
           let u = o .heavy in
-          let t = o .light in
-          (record { kont = k; stacked = m; light = omega arith; same = e; paid = o .paid; counted = c; calm = q },
-          measure-lighter a B W steps (fs ++ f ∷ []) gs (rw (v, u) l))
+          let t = o .light in (
+            record { kont = k; stacked = m; light = omega arith; same = e; paid = o .paid; counted = c; calm = q },
+            measure-lighter a B W steps (fs ++ f ∷ []) gs (rw (v, u) l),
+          )
 
       -- a step is paid
       pub pays : Stacked a B W (suc steps) gs k → weights k ≤ W → steps < B
@@ -168,14 +169,15 @@ module _ {S : Type 0} (H : Meaning S) (B : ℕ) (rec : ℕ → Option ℕ) (a : 
           → Leads H B rec a W w gs y h′ σ′ given′ (steps + 1) entries′ recorded′ × (measure a B W (steps + 1) gs < measure a B W steps (fs ++ f ∷ []))
       pays m l b e c q =
           let v = weighs-all a B W (suc steps) gs k m in
-          let n : suc steps ≡ steps + 1 = sym (add-one steps) in
-          (record {
-            kont = k;
-            stacked = subst (λ (s : ℕ). Stacked a B W s gs k) n m;
-            light = l;
-            same = subst (λ (s : ℕ). resume H B rec k (result y (state-of h′ σ′ given′ s entries′ recorded′)) ≡ w) n e;
-            paid = omega arith;
-            counted = omega arith;
-            calm = q;
-          },
-          measure-paid a B W steps (fs ++ f ∷ []) gs b (rw v l))
+          let n : suc steps ≡ steps + 1 = sym (add-one steps) in (
+            record {
+              kont = k;
+              stacked = subst (λ (s : ℕ). Stacked a B W s gs k) n m;
+              light = l;
+              same = subst (λ (s : ℕ). resume H B rec k (result y (state-of h′ σ′ given′ s entries′ recorded′)) ≡ w) n e;
+              paid = omega arith;
+              counted = omega arith;
+              calm = q;
+            },
+            measure-paid a B W steps (fs ++ f ∷ []) gs b (rw v l),
+          )

@@ -23,16 +23,18 @@ use Rattle.run.specs.declared.frame.Exit.the-variants as E
 use Rattle.run.specs.declared.frame.Frame.{Frame}
 use Rattle.run.specs.declared.frame.Frame.the-variants as F
 use Rattle.run.specs.Tasks.{Task, value, assigns, instrs, afterLeft, afterTest, resume}
-use Rattle.run.specs.Turn.{Leads, kept, test-of}
-use Rattle.run.proofs.Decoded.{instrs-end, instrs-first}
+use Rattle.run.specs.Turn.{Leads, Next, kept, test-of}
+use Rattle.run.proofs.Decoded.{instrs-in, instrs-end, instrs-first}
 use Rattle.run.proofs.Rows.{behind}
 use Rattle.run.proofs.Stack.{later}
-use Rattle.run.proofs.Turning.{Next, top, stay, goes, paying, snoc-length}
+use Rattle.run.proofs.Turning.{top, stay, goes, paying, snoc-length}
 
 module _ {S : Type 0} (H : Meaning S) (B : ℕ) (rec : ℕ → Option ℕ) (a : Slots) (W : ℕ) (w : Result S) (fs : List Frame) {x : Exit}
     {h : S} {σ : List ℕ} {given steps entries : ℕ} {recorded : Bool} (n : x ≡ E.Normal) where
-
   -- ---- a sequence's instructions
+  pub instrs-row : (r : Range) (d : ℕ) → Leads H B rec a W w (fs ++ F.Instructions r d ∷ []) x h σ given steps entries recorded → r .start + r .count ≤ length (a .inner .instructions)
+  instrs-row r d ld = let m = top H B rec a W w fs (F.Instructions r d) n ld .means in instrs-in (a .inner) d r (m .0) (m .2)
+
   pub on-instrs-end : (r : Range) (d : ℕ) → r .count ≡ 0
       → Leads H B rec a W w (fs ++ F.Instructions r d ∷ []) x h σ given steps entries recorded
       → Next H B rec a W w fs (F.Instructions r d) steps fs x h σ given steps entries recorded
@@ -68,9 +70,13 @@ module _ {S : Type 0} (H : Meaning S) (B : ℕ) (rec : ℕ → Option ℕ) (a : 
       let len′ = snoc-length g (F.Assigns (i .lvalue)) in
       let is : o .task ≡ instrs (icons (instr (i .id) (i .lvalue) (q .0) (i .span)) (q .1)) = m .1 ∙ ap instrs (q .2) in
       let light = rw is at (o .light) in
-      paying H B rec a W w o (instrs (icons (instr (i .id) (i .lvalue) (q .0) (i .span)) (q .1))) is _ (value (q .0) ∷ assigns (i .lvalue) ∷ instrs (q .1) ∷ o .kont) n h σ given entries
-      (F.Value (i .value) d, g ++ F.Assigns (i .lvalue) ∷ [], refl, (q .0, refl, q .3, omega arith),
-      (F.Assigns (i .lvalue), g, refl, refl, (F.Instructions (behind r 1) d, fs, refl, (q .1, refl, q .4, omega arith), later a B W steps (suc steps) fs (o .kont) (omega arith) (o .stacked))))
+      paying H B rec a W w o (instrs (icons (instr (i .id) (i .lvalue) (q .0) (i .span)) (q .1))) is _ (value (q .0) ∷ assigns (i .lvalue) ∷ instrs (q .1) ∷ o .kont) n h σ given entries (
+        F.Value (i .value) d,
+        g ++ F.Assigns (i .lvalue) ∷ [],
+        refl,
+        (q .0, refl, q .3, omega arith),
+        (F.Assigns (i .lvalue), g, refl, refl, (F.Instructions (behind r 1) d, fs, refl, (q .1, refl, q .4, omega arith), later a B W steps (suc steps) fs (o .kont) (omega arith) (o .stacked))),
+      )
       (omega arith)
       b
       (rw t)

@@ -28,11 +28,11 @@ use Rattle.run.specs.declared.frame.Frame.{Frame}
 use Rattle.run.specs.declared.frame.Frame.the-variants as F
 use Rattle.run.specs.Frames.{AtMost, block-at, cases-at}
 use Rattle.run.specs.Tasks.{Task, block, endsSwitch, selects, cases, first, around, act, resume, wK, count}
-use Rattle.run.specs.Turn.{Leads, state-of, case-of}
-use Rattle.run.proofs.Decoded.{dropK, cases-end, cases-first, cases-behind}
+use Rattle.run.specs.Turn.{Leads, Next, state-of, case-of}
+use Rattle.run.proofs.Decoded.{dropK, cases-in, cases-end, cases-first, cases-behind}
 use Rattle.run.proofs.Rows.{behind, bound, some-is}
 use Rattle.run.proofs.Stack.{Opened}
-use Rattle.run.proofs.Turning.{Next, top, stay, goes, snoc-length}
+use Rattle.run.proofs.Turning.{top, stay, goes, snoc-length}
 
 dropK-nil : (n : ℕ) → dropK n knil ≡ knil
 dropK-nil zero = refl
@@ -60,7 +60,6 @@ module _ {S : Type 0} (H : Meaning S) (B : ℕ) (rec : ℕ → Option ℕ) where
 
   module _ (a : Slots) (W : ℕ) (w : Result S) (fs : List Frame) {x : Exit}
       {h : S} {σ : List ℕ} {given steps entries : ℕ} {recorded : Bool} (n : x ≡ E.Normal) (m : Option ℕ) (d : ℕ) where
-
     -- ---- the blocks
     pub on-cases-end : (r : Range) → r .count ≡ 0
         → Leads H B rec a W w (fs ++ F.Cases r d ∷ []) x h σ given steps entries recorded
@@ -71,36 +70,47 @@ module _ {S : Type 0} (H : Meaning S) (B : ℕ) (rec : ℕ → Option ℕ) where
         let q = o .means in
         stay H B rec a W w o (cases knil) (q .1 ∙ ap cases (cases-end a d r (q .0) (q .2) z)) fs (o .kont) n h σ given entries (o .stacked) (omega arith) refl (omega arith)
 
-    pub on-cases-none : (r : Range) (t : Option Place) → 0 < r .count → nth (a .cases) (r .start) ≡ Some (record { test = t; block = None })
+    pub cases-row : (r : Range) → Leads H B rec a W w (fs ++ F.Cases r d ∷ []) x h σ given steps entries recorded → r .start + r .count ≤ length (a .cases)
+    cases-row r ld = let q = top H B rec a W w fs (F.Cases r d) n ld .means in cases-in a d r (q .0) (q .2)
+
+    pub on-cases-none : (r : Range) (y : ReactiveSwitchCase) → 0 < r .count → nth (a .cases) (r .start) ≡ Some y → y .block ≡ None
         → Leads H B rec a W w (fs ++ F.Cases r d ∷ []) x h σ given steps entries recorded
         → Next H B rec a W w fs (F.Cases r d) steps (fs ++ F.Cases (behind r 1) d ∷ []) x h σ given steps entries recorded
     unfolding bind
-    on-cases-none r t c at ld =
+    on-cases-none r y c at e ld =
         let o = top H B rec a W w fs (F.Cases r d) n ld in
         let q = o .means in
         let room = q .3 in
-        let p = cases-first a d r (q .0) (q .2) _ c at in
-        stay H B rec a W w o (cases (kcons t noBlock (p .1))) (q .1 ∙ ap cases (p .2 ∙ ap (λ (b : OptBlock). kcons t b (p .1)) (sym (some-is (p .3))))) _ (cases (p .1) ∷ o .kont) n h σ given entries
+        let p = cases-first a d r (q .0) (q .2) y c at in
+        let none : opt-block-of (block-at d a) None ≡ Some (p .0) = subst (λ (z : Option Range). opt-block-of (block-at d a) z ≡ Some (p .0)) e (p .3) in
+        stay H B rec a W w o (cases (kcons (y .test) noBlock (p .1))) (q .1 ∙ ap cases (p .2 ∙ ap (λ (b : OptBlock). kcons (y .test) b (p .1)) (sym (some-is none)))) _ (cases (p .1) ∷ o .kont) n h σ given entries
         (F.Cases (behind r 1) d, fs, refl, (p .1, refl, p .4, omega arith), o .stacked) (omega arith) refl (omega arith)
 
-    pub on-cases-block : (r : Range) (t : Option Place) (b : Range) → 0 < r .count → nth (a .cases) (r .start) ≡ Some (record { test = t; block = Some b })
+    pub on-cases-block : (r : Range) (y : ReactiveSwitchCase) (b : Range) → 0 < r .count → nth (a .cases) (r .start) ≡ Some y → y .block ≡ Some b
         → Leads H B rec a W w (fs ++ F.Cases r d ∷ []) x h σ given steps entries recorded
         → Next H B rec a W w fs (F.Cases r d) steps ((fs ++ F.Cases (behind r 1) d ∷ []) ++ F.Block b d ∷ []) x h σ given steps entries recorded
     unfolding bind
-    on-cases-block r t b c at ld =
+    on-cases-block r y b c at e ld =
         let o = top H B rec a W w fs (F.Cases r d) n ld in
         let q = o .means in
         let room = q .3 in
-        let p = cases-first a d r (q .0) (q .2) _ c at in
-        let y = bound (block-at d a b) _ (p .0) (p .3) in
+        let p = cases-first a d r (q .0) (q .2) y c at in
+        let some : opt-block-of (block-at d a) (Some b) ≡ Some (p .0) = subst (λ (z : Option Range). opt-block-of (block-at d a) z ≡ Some (p .0)) e (p .3) in
+        let s = bound (block-at d a b) _ (p .0) some in
         let len = snoc-length fs (F.Cases (behind r 1) d) in
-        stay H B rec a W w o (cases (kcons t (someBlock (y .0)) (p .1))) (q .1 ∙ ap cases (p .2 ∙ ap (λ (b : OptBlock). kcons t b (p .1)) (sym (some-is (y .2))))) _ (block (y .0) ∷ cases (p .1) ∷ o .kont) n h σ given entries
-        (F.Block b d, fs ++ F.Cases (behind r 1) d ∷ [], refl, (y .0, refl, y .1, omega arith), (F.Cases (behind r 1) d, fs, refl, (p .1, refl, p .4, omega arith), o .stacked)) (omega arith) refl (omega arith)
+        stay H B rec a W w o (cases (kcons (y .test) (someBlock (s .0)) (p .1))) (q .1 ∙ ap cases (p .2 ∙ ap (λ (b : OptBlock). kcons (y .test) b (p .1)) (sym (some-is (s .2))))) _ (block (s .0) ∷ cases (p .1) ∷ o .kont) n h σ given entries
+        (F.Block b d, fs ++ F.Cases (behind r 1) d ∷ [], refl, (s .0, refl, s .1, omega arith), (F.Cases (behind r 1) d, fs, refl, (p .1, refl, p .4, omega arith), o .stacked)) (omega arith) refl (omega arith)
 
     -- ---- the selection
     module _ (c : Selection) (ld : Leads H B rec a W w (fs ++ F.Selects c m d ∷ []) x h σ given steps entries recorded) where
       opening : Opened H B rec a W w fs (F.Selects c m d) E.Normal h σ given steps entries recorded
       opening = top H B rec a W w fs (F.Selects c m d) n ld
+
+      pub select-rows : (c .rest .start + c .rest .count ≤ length (a .cases)) × (c .all .start + c .all .count ≤ length (a .cases)) × (c .next + c .rest .count ≡ c .all .count)
+      select-rows = let q = opening .means in (cases-in a d (c .rest) (q .0) (q .3), cases-in a d (c .all) (q .1) (q .4), q .5)
+
+      pub default-within : (z : ℕ) → c .default ≡ Some z → z ≤ c .all .count
+      default-within z e = subst (λ (y : Option ℕ). AtMost y (c .all .count)) e (opening .means .6)
 
       abbrev A : Around
       A = inSwitch (around (opening .kont))
@@ -111,7 +121,7 @@ module _ {S : Type 0} (H : Meaning S) (B : ℕ) (rec : ℕ → Option ℕ) where
       -- the blocks from place z on are taken, where the selection gives z
       taken : (cs : Cases) (z f : ℕ) (h′ : S) → opening .means .0 ≡ cs → z ≤ c .all .count → first (c .default) (aimK cs (inSwitch (around (opening .kont)))) (c .next) ≡ f
           → bind (select H (within H B) (c .value) (aimK cs (inSwitch (around (opening .kont)))) (c .next) f (state-of h σ given steps entries recorded)) chosen
-            ≡ chosen (state-of h′ σ z steps entries recorded)
+          ≡ chosen (state-of h′ σ z steps entries recorded)
           → Next H B rec a W w fs (F.Selects c m d) steps ((fs ++ F.EndsSwitch m ∷ []) ++ F.Cases (behind (c .all) z) d ∷ []) x h′ σ z steps entries recorded
       unfolding bind chosen
       taken cs z f h′ ec le ef e =
@@ -128,9 +138,9 @@ module _ {S : Type 0} (H : Meaning S) (B : ℕ) (rec : ℕ → Option ℕ) where
           (F.Cases (behind (c .all) z) d, fs ++ F.EndsSwitch m ∷ [], refl, (dropK z (q .1), refl, cases-behind a d (c .all) (q .1) (q .4) z le, omega arith), (F.EndsSwitch m, fs, refl, refl, o .stacked))
           (omega arith)
           (ap (λ (r : Result S). resume H B rec (o .kont) (mapOut (endLoop m) r))
-            (ap (λ (k : Cases). runFrom H (within H B) rec (suc B) k zero st) (dropK-aimed z (q .1) K) ∙ run-from (aimK (q .1) K) z st)
-            ∙ ap (resume H B rec (o .kont)) (sym e)
-            ∙ ap (λ (y : ℕ). resume H B rec (o .kont) (bind (select H (within H B) (c .value) (aimK cs K) (c .next) y s) chosen)) (sym ef))
+          (ap (λ (k : Cases). runFrom H (within H B) rec (suc B) k zero st) (dropK-aimed z (q .1) K) ∙ run-from (aimK (q .1) K) z st)
+          ∙ ap (resume H B rec (o .kont)) (sym e)
+          ∙ ap (λ (y : ℕ). resume H B rec (o .kont) (bind (select H (within H B) (c .value) (aimK cs K) (c .next) y s) chosen)) (sym ef))
           (omega arith)
 
       pub on-selects-default : (z : ℕ) → c .rest .count ≡ 0 → c .default ≡ Some z
@@ -155,9 +165,9 @@ module _ {S : Type 0} (H : Meaning S) (B : ℕ) (rec : ℕ → Option ℕ) where
             → ((b : OptBlock) (cs : Cases) → first (c .default) (aimK (kcons t b cs) A) (c .next) ≡ f b cs)
             → ((b : OptBlock) (cs : Cases) → first z (aimK cs A) (suc (c .next)) ≡ f b cs)
             → ((b : OptBlock) (cs : Cases) → bind (select H (within H B) (c .value) (aimK cs A) (suc (c .next)) (f b cs) (state-of h′ σ given′ steps entries recorded)) chosen
-                ≡ bind (select H (within H B) (c .value) (aimK (kcons t b cs) A) (c .next) (f b cs) (state-of h σ given steps entries recorded)) chosen)
+            ≡ bind (select H (within H B) (c .value) (aimK (kcons t b cs) A) (c .next) (f b cs) (state-of h σ given steps entries recorded)) chosen)
             → Next H B rec a W w fs (F.Selects c m d) steps
-              (fs ++ F.Selects (record { value = c .value; rest = behind (c .rest) 1; next = c .next + 1; default = z; all = c .all }) m d ∷ []) x h′ σ given′ steps entries recorded
+            (fs ++ F.Selects (record { value = c .value; rest = behind (c .rest) 1; next = c .next + 1; default = z; all = c .all }) m d ∷ []) x h′ σ given′ steps entries recorded
         unfolding bind chosen
         goes-on t z f h′ given′ et am ef eg e =
             let o = opening in
@@ -177,21 +187,21 @@ module _ {S : Type 0} (H : Meaning S) (B : ℕ) (rec : ℕ → Option ℕ) where
             (F.Selects c′ m d, fs, refl, (cs, q .1, refl, p .4, q .4, omega arith, am, omega arith), o .stacked)
             (omega arith)
             (ap (λ (i : ℕ). resume H B rec (o .kont) (bind (select H (within H B) v (aimK cs A) i (first z (aimK cs A) i) s′) chosen)) (add-one (c .next))
-              ∙ ap (λ (i : ℕ). resume H B rec (o .kont) (bind (select H (within H B) v (aimK cs A) (suc (c .next)) i s′) chosen)) (eg b cs)
-              ∙ ap (resume H B rec (o .kont)) (e b cs)
-              ∙ ap (λ (i : ℕ). resume H B rec (o .kont) (bind (select H (within H B) v (aimK (kcons t b cs) A) (c .next) i s) chosen)) (sym (ef b cs)))
+            ∙ ap (λ (i : ℕ). resume H B rec (o .kont) (bind (select H (within H B) v (aimK cs A) (suc (c .next)) i s′) chosen)) (eg b cs)
+            ∙ ap (resume H B rec (o .kont)) (e b cs)
+            ∙ ap (λ (i : ℕ). resume H B rec (o .kont) (bind (select H (within H B) v (aimK (kcons t b cs) A) (c .next) i s) chosen)) (sym (ef b cs)))
             (omega arith)
 
         pub on-untested : (z : ℕ) → y .test ≡ None → c .default ≡ Some z
             → Next H B rec a W w fs (F.Selects c m d) steps
-              (fs ++ F.Selects (record { value = c .value; rest = behind (c .rest) 1; next = c .next + 1; default = Some z; all = c .all }) m d ∷ []) x h σ given steps entries recorded
+            (fs ++ F.Selects (record { value = c .value; rest = behind (c .rest) 1; next = c .next + 1; default = Some z; all = c .all }) m d ∷ []) x h σ given steps entries recorded
         on-untested z et ed =
             goes-on None (Some z) (λ b cs. z) h given et (subst (λ (y : Option ℕ). AtMost y (c .all .count)) ed (opening .means .6))
             (λ b cs. ap (λ (u : Option ℕ). first u (aimK (kcons None b cs) A) (c .next)) ed) (λ b cs. refl) (λ b cs. refl)
 
         pub on-untested-first : y .test ≡ None → c .default ≡ None
             → Next H B rec a W w fs (F.Selects c m d) steps
-              (fs ++ F.Selects (record { value = c .value; rest = behind (c .rest) 1; next = c .next + 1; default = Some (c .next); all = c .all }) m d ∷ []) x h σ given steps entries recorded
+            (fs ++ F.Selects (record { value = c .value; rest = behind (c .rest) 1; next = c .next + 1; default = Some (c .next); all = c .all }) m d ∷ []) x h σ given steps entries recorded
         on-untested-first et ed =
             let sum = opening .means .5 in
             goes-on None (Some (c .next)) (λ b cs. c .next) h given et (omega arith)
@@ -200,7 +210,7 @@ module _ {S : Type 0} (H : Meaning S) (B : ℕ) (rec : ℕ → Option ℕ) where
         module _ (p : Place) (u v : ℕ) (et : y .test ≡ Some p) (eu : u ≡ look σ (p .identifier)) (h′ : S) (eh : h′ ≡ H .next h (case-of (c .value) u)) where
           pub on-case-no : Value v ≡ H .answer h (case-of (c .value) u) → eqb v 0 ≡ true
               → Next H B rec a W w fs (F.Selects c m d) steps
-                (fs ++ F.Selects (record { value = c .value; rest = behind (c .rest) 1; next = c .next + 1; default = c .default; all = c .all }) m d ∷ []) x h′ σ v steps entries recorded
+              (fs ++ F.Selects (record { value = c .value; rest = behind (c .rest) 1; next = c .next + 1; default = c .default; all = c .all }) m d ∷ []) x h′ σ v steps entries recorded
           unfolding ask onReply branch
           on-case-no ea e0 =
               let eh′ = rw eu at eh in

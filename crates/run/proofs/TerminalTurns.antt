@@ -35,18 +35,17 @@ use Rattle.run.specs.declared.frame.Frame.the-variants as F
 use Rattle.run.specs.Exits.{any}
 use Rattle.run.specs.Frames.{value-at, block-at, cases-at, loop-at}
 use Rattle.run.specs.Tasks.{Loop, testFirst, blockFirst, updating, Task, block, begun, value, endsLabel, starts, selects, catches, around, act, resume}
-use Rattle.run.specs.Turn.{Leads, state-of, test-of}
+use Rattle.run.specs.Turn.{Leads, Next, state-of, test-of}
 use Rattle.run.proofs.Jumps.{found, any-found}
 use Rattle.run.proofs.Rows.{bound, some-is}
 use Rattle.run.proofs.Stack.{Opened}
-use Rattle.run.proofs.Statements.{terminal-parts, Stands, switch-parts, doWhile-parts, while-parts, forIn-parts, forOf-parts, for-parts, if-parts, label-parts, try-parts}
-use Rattle.run.proofs.Turning.{Next, top, stay, goes, snoc-length}
+use Rattle.run.proofs.StatementParts.{terminal-parts, Stands, switch-parts, doWhile-parts, while-parts, forIn-parts, forOf-parts, for-parts, if-parts, label-parts, try-parts}
+use Rattle.run.proofs.Turning.{top, stay, goes, snoc-length}
 
 module _ {S : Type 0} (H : Meaning S) (B : ℕ) (rec : ℕ → Option ℕ) (a : Slots) (W : ℕ) (w : Result S) (fs : List Frame) {x : Exit}
     {h : S} {σ : List ℕ} {given steps entries : ℕ} {recorded : Bool} (n : x ≡ E.Normal)
     (k d : ℕ) (t : ReactiveTerminalStatement) (at : nth (a .statements) k ≡ Some (K.Terminal t))
     (ld : Leads H B rec a W w (fs ++ F.Statement k d ∷ []) x h σ given steps entries recorded) where
-
   -- the terminal of the begun statement
   record Begun (r : ReactiveTerminal) : Type 0 where
     pub o : Opened H B rec a W w fs (F.Statement k d) E.Normal h σ given steps entries recorded
@@ -284,16 +283,20 @@ module _ {S : Type 0} (H : Meaning S) (B : ℕ) (rec : ℕ → Option ℕ) (a : 
         let p = try-parts a d (g .u) b q c i (g .stands) in
         let one = len in
         let two = snoc-length (fs ++ F.EndsLabel m ∷ []) (F.Catches q c d) in
-        stay H B rec a W w o (begun (terminal (try (p .0) q (p .1) i) (t .label))) (task-is g _ (p .2)) _ (block (p .0) ∷ catches q (p .1) ∷ endsLabel m ∷ o .kont) n h σ given entries
-        (F.Block b d, (fs ++ F.EndsLabel m ∷ []) ++ F.Catches q c d ∷ [], refl, (p .0, refl, p .3, omega arith),
-        (F.Catches q c d, fs ++ F.EndsLabel m ∷ [], refl, (p .1, refl, p .4, omega arith), (F.EndsLabel m, fs, refl, refl, o .stacked)))
+        stay H B rec a W w o (begun (terminal (try (p .0) q (p .1) i) (t .label))) (task-is g _ (p .2)) _ (block (p .0) ∷ catches q (p .1) ∷ endsLabel m ∷ o .kont) n h σ given entries (
+          F.Block b d,
+          (fs ++ F.EndsLabel m ∷ []) ++ F.Catches q c d ∷ [],
+          refl,
+          (p .0, refl, p .3, omega arith),
+          (F.Catches q c d, fs ++ F.EndsLabel m ∷ [], refl, (p .1, refl, p .4, omega arith), (F.EndsLabel m, fs, refl, refl, o .stacked)),
+        )
         (omega arith)
         (rw em)
         (omega arith)
 
     pub on-switch : (q : Place) (r : Range) (i v : ℕ) → t .terminal ≡ R.Switch q r i → v ≡ look σ (q .identifier)
         → Next H B rec a W w fs (F.Statement k d) steps
-          ((fs ++ F.EndsLabel m ∷ []) ++ F.Selects (record { value = v; rest = r; next = 0; default = None; all = r }) m d ∷ []) x h σ given steps entries recorded
+        ((fs ++ F.EndsLabel m ∷ []) ++ F.Selects (record { value = v; rest = r; next = 0; default = None; all = r }) m d ∷ []) x h σ given steps entries recorded
     unfolding bind
     on-switch q r i v e ev =
         let g = begin (R.Switch q r i) e in
@@ -359,7 +362,7 @@ module _ {S : Type 0} (H : Meaning S) (B : ℕ) (rec : ℕ → Option ℕ) (a : 
         (rw (em, eh′, ← ea′, e0))
         (omega arith)
 
-    pub on-if-none : (m : Option ℕ) → m ≡ mark (t .label) →  t .terminal ≡ R.If q b None i → Value v ≡ H .answer h (test-of 0 g) → eqb v 0 ≡ true
+    pub on-if-none : (m : Option ℕ) → m ≡ mark (t .label) → t .terminal ≡ R.If q b None i → Value v ≡ H .answer h (test-of 0 g) → eqb v 0 ≡ true
         → Next H B rec a W w fs (F.Statement k d) steps (fs ++ F.EndsLabel m ∷ []) x h′ σ v steps entries recorded
     unfolding bind ask onReply branch
     on-if-none m em e ea e0 =

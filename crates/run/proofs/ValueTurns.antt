@@ -29,14 +29,18 @@ use Rattle.run.specs.declared.frame.Frame.{Frame}
 use Rattle.run.specs.declared.frame.Frame.the-variants as F
 use Rattle.run.specs.Frames.{Means, Stacked, value-at}
 use Rattle.run.specs.Tasks.{Task, value, assigns, instrs, afterLeft, afterTest, around, act, resume, weight, weights}
-use Rattle.run.specs.Turn.{Leads, result, state-of}
-use Rattle.run.proofs.Decoded.{value-in, operation-parts, logical-parts, conditional-parts, sequence-parts, optional-parts, instrs-in, instrs-end, instrs-first}
+use Rattle.run.specs.Turn.{Leads, Next, result, state-of}
+use Rattle.run.proofs.Decoded.{value-in, value-deep, operation-parts, logical-parts, conditional-parts, sequence-parts, optional-parts, instrs-in, instrs-end, instrs-first}
 use Rattle.run.proofs.Rows.{behind}
 use Rattle.run.proofs.Stack.{Opened, later}
-use Rattle.run.proofs.Turning.{Next, top, stay, goes, paying, snoc-length}
+use Rattle.run.proofs.Turning.{top, stay, goes, paying, snoc-length}
 
 module _ {S : Type 0} (H : Meaning S) (B : ℕ) (rec : ℕ → Option ℕ) (a : Slots) (W : ℕ) (w : Result S) (fs : List Frame) {x : Exit}
     {h : S} {σ : List ℕ} {given steps entries : ℕ} {recorded : Bool} (n : x ≡ E.Normal) where
+  pub value-slot : (k d : ℕ) → Leads H B rec a W w (fs ++ F.Value k d ∷ []) x h σ given steps entries recorded → (k < length (a .inner .values)) × (1 ≤ d)
+  value-slot k d ld =
+      let m = top H B rec a W w fs (F.Value k d) n ld .means in
+      (value-in (a .inner) d k (m .0) (m .2), value-deep (a .inner) d k (m .0) (m .2))
 
   pub on-logical : (k d p : ℕ) (op : LogicalOperator) (l r : ℕ) → p ≡ suc (operator-number op) → nth (a .inner .values) k ≡ Some (V.LogicalExpression op l r)
       → Leads H B rec a W w (fs ++ F.Value k d ∷ []) x h σ given steps entries recorded

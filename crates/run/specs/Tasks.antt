@@ -145,7 +145,6 @@ abbrev pub count : Cases → ℕ
 count knil = 0
 count (kcons t b cs) = suc (count cs)
 
-
 abbrev mutual
   pub wS : Stmt → ℕ
   wS (instruction i) = wI i

@@ -57,6 +57,12 @@ pub record Leads {S : Type 0} (H : Meaning S) (B : ℕ) (rec : ℕ → Option �
   pub counted : entries + owed kont ≤ steps
   pub calm : Calm x recorded
 
+-- after the turn of the frame f, on the frames fs: the run goes on with the frames gs, nearer to its end
+pub record Next {S : Type 0} (H : Meaning S) (B : ℕ) (rec : ℕ → Option ℕ) (a : Slots) (W : ℕ) (w : Result S) (fs : List Frame) (f : Frame) (steps : ℕ)
+    (gs : List Frame) (y : Exit) (h′ : S) (σ′ : List ℕ) (given′ steps′ entries′ : ℕ) (recorded′ : Bool) : Type 0 where
+  pub leads : Leads H B rec a W w gs y h′ σ′ given′ steps′ entries′ recorded′
+  pub less : measure a B W steps′ gs < measure a B W steps (fs ++ f ∷ [])
+
 -- the whole run of the tables weighs
 abbrev pub whole-weight : Tables → ℕ
 whole-weight T = wB (function-of T .body)
@@ -74,8 +80,8 @@ module _ {S : Type 0} (answer : S → Asked → Reply) (next : S → Asked → S
   abbrev pub Turns : Memory → Frame → List ℕ → S → Memory → List ℕ → S → Type 0
   Turns m f σ h m′ σ′ h′ =
       (w : Result S) → At w m (vec-items (m .frames) ++ f ∷ []) σ h
-      → At w m′ (vec-items (m′ .frames)) σ′ h′
-      × (measure (slots (T .arena)) B (whole-weight T) (m′ .steps) (vec-items (m′ .frames)) < measure (slots (T .arena)) B (whole-weight T) (m .steps) (vec-items (m .frames) ++ f ∷ []))
+      → Next (host-of answer next keeps) B (records-of (function-of T .scopes)) (slots (T .arena)) (whole-weight T) w (vec-items (m .frames)) f (m .steps)
+      (vec-items (m′ .frames)) (m′ .exit) h′ σ′ (m′ .given) (m′ .steps) (m′ .entries) (m′ .recorded)
 
 -- an optional place gets a value
 abbrev pub kept : Option Place → List ℕ → ℕ → List ℕ
