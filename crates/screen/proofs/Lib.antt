@@ -1,3 +1,5 @@
+pub mod Digits
+pub mod Listed
 pub mod Numbers
 pub mod Reading
 pub mod Tapes

@@ -1,4 +1,5 @@
 pub mod Arguments
+pub mod Laws
 pub mod Number
 pub mod Refusal
 pub mod Said

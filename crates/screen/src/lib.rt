@@ -1,5 +1,6 @@
 // What the program `run_screen` is asked, and what it says.
 pub mod arguments;
+pub mod laws;
 pub mod number;
 pub mod refusal;
 pub mod said;
