@@ -12,3 +12,4 @@ pub mod Jumps
 pub mod TerminalTurns
 pub mod SwitchTurns
 pub mod Records
+pub mod Between

@@ -40,7 +40,7 @@ nth-read [] k x h e = absurd (omega arith)
 nth-read {X = X} (y ∷ xs) zero x h e = ap (λ (z : X). Some z) (sym e)
 nth-read (y ∷ xs) (suc k) x h e = nth-read xs k x (omega arith) e
 
-drop-nth : {X : Type 0} (xs : List X) (k : ℕ) (x : X) → nth xs k ≡ Some x → drop k xs ≡ x ∷ drop (suc k) xs
+pub drop-nth : {X : Type 0} (xs : List X) (k : ℕ) (x : X) → nth xs k ≡ Some x → drop k xs ≡ x ∷ drop (suc k) xs
 drop-nth [] k x e = none-some x e
 drop-nth (y ∷ xs) zero x e = ap (λ (z : _). z ∷ xs) (some-is e)
 drop-nth (y ∷ xs) (suc k) x e = drop-nth xs k x e

@@ -1,4 +1,5 @@
 pub mod Tasks
 pub mod Frames
 pub mod Exits
+pub mod Operands
 pub mod Turn

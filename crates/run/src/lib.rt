@@ -4,6 +4,7 @@ mod ends;
 pub mod frame;
 mod loops;
 pub mod memory;
+mod operands;
 mod reads;
 mod sequences;
 mod statements;
