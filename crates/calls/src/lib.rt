@@ -1,4 +1,6 @@
 // Calls on a loaded function: opening, walks, lowering, label pruning, keeping, taking back and runs, in any order.
+#![tactic(auto)]
+
 ghost use Rattle.calls.specs.Promise.{CallsPromise};
 
 // After any list of calls, refused ones among them, the function found behaves as the one loaded, in few steps more, and every

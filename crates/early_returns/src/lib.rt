@@ -1,4 +1,6 @@
 // The pass that carries early returns out of reactive scopes: what is promised of it, each promise by a function that carries it.
+#![tactic(auto)]
+
 ghost use Rattle.early_returns.specs.Faithful.{LoweringFaithful};
 ghost use Rattle.early_returns.specs.Promises.{PassIsDescription, LoweredOnce};
 ghost use Rattle.early_returns.specs.Examples.{Examples};

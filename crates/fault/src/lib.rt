@@ -1,4 +1,6 @@
 // Why a run is refused: each fault has a number and a place.
+#![tactic(auto)]
+
 ghost use Rattle.std.specs.Prelude.{◌≡◌};
 ghost use Rattle.fault.specs.Faults.{run_number, run_place};
 

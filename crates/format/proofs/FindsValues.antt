@@ -11,7 +11,7 @@ use Rattle.hir.specs.Sizes.{plus, some_places, opt_place_size, val_size, instr_s
 use Rattle.hir.specs.Tree.{Op, Val, operation, logical, conditional, sequence, optional, Instr, instr, Instrs, inil, icons}
 use Rattle.format.specs.Depth.{value_depth, instr_depth, instrs_depth}
 use Rattle.format.specs.Readable.{Known, ValFits, InstrFits, InstrsFit}
-use Rattle.format.specs.Parse.{Cursor, Read, onto, give, below, word, case, option, listed, effects, place, payload, op, operators, begin_value, instr_read, instrs_read, logical_read, conditional_read, sequence_read, optional_read, val_read, value, top_value}
+use Rattle.format.specs.Parse.{Cursor, Read, onto, give, below, word, case, option, listed, effects, place, op, operators, begin_value, instr_read, instrs_read, logical_read, conditional_read, sequence_read, optional_read, val_read, value, top_value}
 use Rattle.format.proofs.Finds.{Faces, Shows, Finds, Sees, both, then, ends, on, made, formed, plain, nothing, given, faces_sized, finds_sized, word_sees, below_sees, order_sees, case_finds, case_sees, flag_sees, option_finds, listed_finds}
 use Rattle.format.proofs.Begins.{statement_begins, value_begins, place_begins}
 use Rattle.format.proofs.TookValues.{opt_place_same, places_size}

@@ -1,5 +1,5 @@
 -- What is written of a readable function is read as that function: words and bytes. Assumes nothing.
-use Rattle.std.proofs.Common.{◌≡◌, ℕ, ◌+◌, ◌-◌, ◌%◌, ◌≤◌, true, false, cond, eqb, leb, List, [], ◌∷◌, ◌++◌, length, get_or, take, drop, Ok, Err, Result, sym, refl, ap, ◌∙◌, subst, append_assoc, append_nil, arith, length-append, take_at, drop_at, eq-eqb, le-leb}
+use Rattle.std.proofs.Common.{◌≡◌, ℕ, ◌+◌, ◌-◌, ◌%◌, ◌≤◌, true, false, cond, eqb, leb, List, [], ◌∷◌, ◌++◌, length, get_or, take, drop, Ok, Err, Result, sym, refl, ap, ◌∙◌, subst, append_assoc, append-nil, arith, length-append, take_at, drop_at, eq-eqb, le-leb}
 use Rattle.hir.specs.declared.used.Used.{Used}
 use Rattle.hir.specs.Encode.{items_words, counters_words, identifier_words, scope_words, block_words, encode}
 use Rattle.hir.specs.Limits.{Within, limits}
@@ -34,7 +34,7 @@ last_is ws at from to a b c =
 section_is : {X : Type 0} (p : Cursor → Read X) (x : X) (s : Used) (ws : List ℕ) (from to : ℕ) (u : Used) (vs : List ℕ) → take (to - from) (drop from ws) ≡ vs → Within (plus u s) limits → ((c : Cursor) → Faces c vs [] s → Finds (p c) x c [] s) → section p ws from to u ≡ Ok (x, plus u s)
 section_is p x s ws from to u vs e w find =
     let c : Cursor = record { at = from; rest = take (to - from) (drop from ws); used = u } in
-    let a = find c (record { rest = e ∙ sym (append_nil vs); room = w }) in
+    let a = find c (record { rest = e ∙ sym (append-nil vs); room = w }) in
     ap (λ r. and_then r (λ q. to_end q.0 q.1.at q.1.used q.1.rest)) a.is ∙ ap (to_end x a.to.at a.to.used) a.rest ∙ ap (λ v. Ok (x, v)) a.used
 
 part_is : (ws ps vs qs : List ℕ) (from to : ℕ) → ws ≡ ps ++ (vs ++ qs) → length ps ≡ from → to ≡ from + length vs → take (to - from) (drop from ws) ≡ vs
@@ -110,7 +110,7 @@ module _ (F : Function) (g : Readable F) where
       let l₄ = length-append ((head ++ cs) ++ is) ss in
       let w₂ : ws ≡ (head ++ cs) ++ (is ++ (ss ++ bs)) = sym (append_assoc head cs (is ++ (ss ++ bs))) in
       let w₃ : ws ≡ ((head ++ cs) ++ is) ++ (ss ++ bs) = w₂ ∙ sym (append_assoc (head ++ cs) is (ss ++ bs)) in
-      let w₄ : ws ≡ (((head ++ cs) ++ is) ++ ss) ++ (bs ++ []) = w₃ ∙ sym (append_assoc ((head ++ cs) ++ is) ss bs) ∙ ap (λ l. (((head ++ cs) ++ is) ++ ss) ++ l) (sym (append_nil bs)) in
+      let w₄ : ws ≡ (((head ++ cs) ++ is) ++ ss) ++ (bs ++ []) = w₃ ∙ sym (append_assoc ((head ++ cs) ++ is) ss bs) ∙ ap (λ l. (((head ++ cs) ++ is) ++ ss) ++ l) (sym (append-nil bs)) in
       let r₃ = room_less u₃ (block_size F.body) room in
       let r₂ = room_less u₂ (some_scopes (length F.scopes) (declarations_in F.scopes)) r₃ in
       let r₁ = room_less u₁ (some_identifiers (length F.identifiers)) r₂ in

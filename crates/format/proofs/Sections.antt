@@ -1,5 +1,5 @@
 -- What the pairs and the four sections of a file that is read say of its words. Assumes nothing.
-use Rattle.std.proofs.Common.{◌≡◌, ℕ, ◌+◌, ◌-◌, ◌≤◌, Bool, true, false, cond, eqb, leb, List, [], ◌∷◌, ◌++◌, length, get_or, take, drop, Ok, Err, Result, sym, refl, ap, ◌∙◌, subst, append_nil, arith, eqb-true, leb-true}
+use Rattle.std.proofs.Common.{◌≡◌, ℕ, ◌+◌, ◌-◌, ◌≤◌, Bool, true, false, cond, eqb, leb, List, [], ◌∷◌, ◌++◌, length, get_or, take, drop, Ok, Err, Result, sym, refl, ap, ◌∙◌, subst, append-nil, arith, eqb-true, leb-true}
 use Rattle.hir.specs.declared.environment.Counters.{Counters}
 use Rattle.hir.specs.declared.environment.Identifier.{Identifier}
 use Rattle.hir.specs.declared.used.Used.{Used}
@@ -32,7 +32,7 @@ section_covers {X} p w s h ws from to u r e =
     let z = to_end_ok o.0.0 o.0.1.at o.0.1.used o.0.1.rest r o.2 in
     let t = (h c).so o.0.0 o.0.1 o.1 in
     subst (λ (q : X × Used). Covers ws from to u q.1 (w q.0) (s q.0)) z.1
-    (record { words = t.rest ∙ ap (λ l. w o.0.0 ++ l) z.0 ∙ append_nil (w o.0.0); used = t.used; kept = t.kept })
+    (record { words = t.rest ∙ ap (λ l. w o.0.0 ++ l) z.0 ∙ append-nil (w o.0.0); used = t.used; kept = t.kept })
 
 -- ---- a pair that stands
 pub record Stands (ws : List ℕ) (offset long from to : ℕ) : Type 0 where

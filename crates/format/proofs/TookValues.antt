@@ -1,5 +1,5 @@
 -- What the reading of a value takes: its words and its slots. Assumes nothing.
-use Rattle.std.proofs.Common.{◌≡◌, ℕ, zero, suc, ◌+◌, Bool, true, false, cond, eqb, List, [], ◌∷◌, ◌++◌, length, Some, None, Option, sym, refl, ap, ◌∙◌, subst, arith}
+use Rattle.std.proofs.Common.{◌≡◌, ℕ, zero, suc, Bool, true, false, cond, eqb, List, [], ◌∷◌, ◌++◌, length, Some, None, Option, sym, refl, ap, ◌∙◌, subst, arith}
 use Rattle.hir.specs.declared.place.Place.{Place}
 use Rattle.hir.specs.Encode.{option_words, list_words, place_words, op_words, instr_count, val_words, instr_words, instrs_words}
 use Rattle.hir.specs.Numbers.{effect_number, operator_number}

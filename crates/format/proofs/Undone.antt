@@ -1,5 +1,5 @@
 -- What is read is written as it was: words, bytes, and how many of them. Assumes nothing.
-use Rattle.std.proofs.Common.{◌≡◌, ℕ, ◌+◌, ◌-◌, ◌≤◌, List, ◌∷◌, ◌++◌, length, get_or, take, drop, Ok, sym, ap, ◌∙◌, append_nil, arith, length-drop, take-append-drop, length-take-le, drop-cons}
+use Rattle.std.proofs.Common.{◌≡◌, ℕ, ◌+◌, ◌-◌, ◌≤◌, List, ◌∷◌, ◌++◌, length, get_or, take, drop, Ok, sym, ap, ◌∙◌, append-nil, arith, length-drop, take-append-drop, length-take-le, drop-cons}
 use Rattle.std.proofs.lemmas.List.{drop-drop, drop_all}
 use Rattle.hir.specs.Encode.{sections, encode}
 use Rattle.hir.specs.Tree.{Function}
@@ -40,7 +40,7 @@ module _ (ws : List ℕ) (e₁ e₂ e₃ e₄ : ℕ) where
       let q₅ : length (take (e₃ - e₂) (drop e₂ ws)) ≡ get_or ws 5 0 = omega arith in
       let q₆ : 8 + length (take (e₁ - 8) (drop 8 ws)) + length (take (e₂ - e₁) (drop e₁ ws)) + length (take (e₃ - e₂) (drop e₂ ws)) ≡ get_or ws 6 0 = omega arith in
       let q₇ : length (take (e₄ - e₃) (drop e₃ ws)) ≡ get_or ws 7 0 = omega arith in
-      let r₄ : take (e₄ - e₃) (drop e₃ ws) ≡ drop e₃ ws = sym (append_nil _) ∙ ap (λ l. take (e₄ - e₃) (drop e₃ ws) ++ l) (sym (drop_all e₄ ws (omega arith))) ∙ part_joined ws e₃ e₄ (omega arith) in
+      let r₄ : take (e₄ - e₃) (drop e₃ ws) ≡ drop e₃ ws = sym (append-nil _) ∙ ap (λ l. take (e₄ - e₃) (drop e₃ ws) ++ l) (sym (drop_all e₄ ws (omega arith))) ∙ part_joined ws e₃ e₄ (omega arith) in
       let r₃ = ap (λ l. take (e₃ - e₂) (drop e₂ ws) ++ l) r₄ ∙ part_joined ws e₂ e₃ (omega arith) in
       let r₂ = ap (λ l. take (e₂ - e₁) (drop e₁ ws) ++ l) r₃ ∙ part_joined ws e₁ e₂ (omega arith) in
       let r₁ = ap (λ l. take (e₁ - 8) (drop 8 ws) ++ l) r₂ ∙ part_joined ws 8 e₁ (omega arith) in

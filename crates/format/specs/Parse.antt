@@ -1,5 +1,5 @@
 -- What the words of a file say: the function, or why they are refused. Assumes nothing.
-use Rattle.std.specs.Prelude.{ℕ, zero, suc, ◌+◌, ◌-◌, ◌*◌, ◌%◌, Bool, true, false, cond, List, [], ◌∷◌, length, Some, None, Ok, Err, Option, Result, ◌==◌, nat_le, nat_lt, slice_index, slice_range}
+use Rattle.std.specs.Prelude.{ℕ, zero, suc, ◌+◌, ◌%◌, Bool, true, false, cond, List, [], ◌∷◌, length, Some, None, Ok, Err, Option, Result, ◌==◌, nat_le, nat_lt, slice_index, slice_range}
 use Rattle.hir.specs.declared.place.Effect.{Effect}
 use Rattle.hir.specs.declared.place.Effect.TheVariants.{Unknown, Freeze, Read as ReadEffect, Capture, ConditionallyMutateIterator, ConditionallyMutate, Mutate, Store}
 use Rattle.hir.specs.declared.place.Place.{Place}

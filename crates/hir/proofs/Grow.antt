@@ -1,21 +1,16 @@
 -- What slots stand for stays when the tables grow, and what is added stands for what it was made of. Assumes nothing.
-use Rattle.std.proofs.Common.{◌≡◌, ℕ, zero, suc, ◌+◌, ◌≤◌, Bool, true, false, cond, leb, List, [], ◌∷◌, ◌++◌, length, take, drop, Some, None, Option, sym, refl, ap, ◌∙◌, ap₂, append_assoc, append_nil, arith, length-append, le-leb, leb-true}
+use Rattle.std.proofs.Common.{◌≡◌, ℕ, zero, suc, ◌+◌, ◌≤◌, Bool, true, false, cond, leb, List, [], ◌∷◌, ◌++◌, length, take, drop, Some, None, Option, sym, refl, ap, ◌∙◌, ap₂, append_assoc, append-nil, arith, length-append, le-leb, leb-true}
 use Rattle.std.proofs.lemmas.List.{drop-append-le, take-append-le, length-drop, drop_at, take_all}
-use Rattle.hir.specs.declared.place.Place.{Place}
 use Rattle.hir.specs.declared.range.Range.{Range}
-use Rattle.hir.specs.declared.value.InstructionValue.{InstructionValue}
 use Rattle.hir.specs.declared.value.ReactiveValue.{ReactiveValue}
 use Rattle.hir.specs.declared.value.ReactiveValue.TheVariants.{Instruction as Inst, LogicalExpression, ConditionalExpression, SequenceExpression, OptionalExpression}
-use Rattle.hir.specs.declared.value.ReactiveInstruction.{ReactiveInstruction}
 use Rattle.hir.specs.declared.statement.ReactiveStatement.{ReactiveStatement}
 use Rattle.hir.specs.declared.statement.ReactiveStatement.TheVariants.{Instruction, Terminal, Scope, PrunedScope}
-use Rattle.hir.specs.declared.terminal.ReactiveTerminal.{ReactiveTerminal}
 use Rattle.hir.specs.declared.terminal.ReactiveTerminal.TheVariants.{Break, Continue, Return, Throw, Switch, DoWhile, While, For, ForOf, ForIn, If, Label, Try}
-use Rattle.hir.specs.declared.terminal.ReactiveSwitchCase.{ReactiveSwitchCase}
 use Rattle.hir.specs.Options.{bind, nth, part}
 use Rattle.hir.specs.Grows.{Grows, ValuesGrow, SlotsGrow}
-use Rattle.hir.specs.Decode.{ValueSlots, Slots, op_of, instr_of, instrs_of, val_of, value_of, top_value, opt_value_of, opt_block_of, cases_of, term_of, stmt_of, body_of, slot_of, block_of, root_of}
-use Rattle.hir.specs.Tree.{Op, Val, operation, logical, conditional, sequence, optional, OptVal, no_val, some_val, Instr, instr, Instrs, inil, icons, Stmt, instruction, scope, pruned, terminal, Term, Cases, knil, kcons, OptBlock, no_block, some_block, Block, nil, cons}
+use Rattle.hir.specs.Decode.{ValueSlots, Slots, op_of, instr_of, instrs_of, val_of, value_of, top_value, opt_value_of, opt_block_of, cases_of, term_of, stmt_of, body_of, slot_of, block_of}
+use Rattle.hir.specs.Tree.{Val, Stmt, Block}
 
 pub none_some : {X : Type 0} {x : X} → None ≡ Some x → ⊥
 none_some e = let z : ◌≡◌ {A = ℕ} 0 1 = cc in omega arith
@@ -39,7 +34,7 @@ bind_under o p f g y more under e =
 
 -- ---- lists that have grown
 pub grows_same : {X : Type 0} {xs ys : List X} → ys ≡ xs → Grows xs ys
-grows_same e = record { more = []; is = e ∙ sym (append_nil _) }
+grows_same e = record { more = []; is = e ∙ sym (append-nil _) }
 
 pub grows_more : {X : Type 0} {xs ys zs : List X} → Grows xs ys → Grows ys zs → Grows xs zs
 grows_more {xs = xs} g h =

@@ -3,3 +3,4 @@ pub mod Empty
 pub mod Bound
 pub mod Parts
 pub mod Grow
+pub mod Deepest

@@ -1,5 +1,5 @@
 -- The limits as a test and as facts: each gives the other. Assumes nothing.
-use Rattle.std.proofs.Common.{◌≡◌, ℕ, ◌≤◌, Bool, true, false, ◌&&◌, leb, refl, arith, le-leb, leb-true}
+use Rattle.std.proofs.Common.{◌≡◌, ℕ, Bool, true, false, ◌&&◌, refl, arith, le-leb, leb-true}
 use Rattle.hir.specs.declared.used.Used.{Used}
 use Rattle.hir.specs.Limits.{Within, within}
 

@@ -1,5 +1,8 @@
 // The tree of a reactive function in numbered slots, with the tables that it refers to.
+#![tactic(auto)]
+
 pub mod arena;
+pub mod depth;
 pub mod environment;
 pub mod place;
 pub mod range;

@@ -1,5 +1,5 @@
 -- The two hosts. Assumes nothing.
-use Rattle.std.specs.Prelude.{◌≡◌, ℕ, ◌+◌, ◌%◌, ◌^◌, cond, List, [], ◌∷◌, length, nat_lt, slice_index, refl}
+use Rattle.std.specs.Prelude.{ℕ, ◌+◌, ◌%◌, ◌^◌, cond, List, [], ◌∷◌, length, nat_lt, slice_index, refl}
 use Rattle.host.specs.Asked.{Asked, Keeps, fixed, or_else, or_stay}
 use Rattle.host.specs.declared.Reply.{Reply}
 use Rattle.host.specs.declared.Reply.TheVariants.{Value, Thrown}

@@ -1,4 +1,6 @@
 // A host is asked questions. Its meaning is a state, and two functions of state and question: the answer and the next state.
+#![tactic(auto)]
+
 ghost use Rattle.std.specs.Prelude.{◌≡◌, ℕ, ◌+◌, ◌-◌, ◌<◌, ◌≤◌, List, length, Some, Option};
 ghost use Rattle.host.specs.declared.Reply.{Reply};
 ghost use Rattle.host.specs.declared.Reply.TheVariants.{Value};

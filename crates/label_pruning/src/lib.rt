@@ -1,4 +1,6 @@
 // Label pruning: a label that no break inside targets gives way to its statements.
+#![tactic(auto)]
+
 ghost use Rattle.label_pruning.specs.Promises.{PruningFaithful};
 ghost use Rattle.label_pruning.specs.Examples.{Examples};
 

@@ -1,5 +1,5 @@
 -- Statements and switch cases, one after another, and the rows that they become. Assumes nothing.
-use Rattle.std.proofs.Common.{◌≡◌, ℕ, zero, suc, ◌+◌, ◌-◌, ◌<◌, ◌≤◌, ◌≢◌, List, [], ◌∷◌, ◌++◌, length, take, drop, Some, None, Ok, Err, vec_items, vec_len, Option, sym, refl, ap, ◌∙◌, append_assoc, append_nil, add-one, arith, length-append}
+use Rattle.std.proofs.Common.{◌≡◌, ℕ, zero, suc, ◌+◌, ◌-◌, ◌<◌, ◌≤◌, ◌≢◌, List, [], ◌∷◌, ◌++◌, length, take, drop, Some, None, Ok, Err, vec_items, vec_len, Option, sym, refl, ap, ◌∙◌, append_assoc, append-nil, add-one, arith, length-append}
 use Rattle.std.proofs.lemmas.List.{drop_at, take_at}
 use Rattle.hir.specs.declared.arena.Arena.{Arena}
 use Rattle.hir.specs.declared.place.Place.{Place}
@@ -107,7 +107,7 @@ waited_grow a b k p =
 
 pub stmts_none : {d : ℕ} {a : Arena} {c : Cursor} → StmtsIn d 0 a a c c
 stmts_none {d} {a} {c} =
-    record { tree = nil; row = []; parsed = refl; stands = refl; step = step_later a (within_same c.used); waiting = sym (append_nil _); casing = refl }
+    record { tree = nil; row = []; parsed = refl; stands = refl; step = step_later a (within_same c.used); waiting = sym (append-nil _); casing = refl }
 
 pub stmts_after : (f : Arena) {d n k : ℕ} {a b e g : Arena} {c c₁ c₂ c₃ : Cursor} {s : ReactiveStatement} → StmtsIn d n a b c c₁ → begin_statement c₁ ≡ Ok (tt, c₂) → BlockIn (stmt_read (block d)) (stmt_in d) b e c₂ c₃ s → Added e f s k → Waited f g k → StmtsIn d (n + 1) a g c c₃
 stmts_after f {d} {n} {k} {a} {b} {e} {g} {c} {c₁} {c₂} {c₃} {s} m h x p q =
@@ -275,7 +275,7 @@ case_kept d s t g k x e =
 
 pub cases_none : {d : ℕ} {a : Arena} {c : Cursor} → CasesIn d 0 a a c c
 cases_none {d} {a} {c} =
-    record { tree = knil; row = []; parsed = refl; stands = refl; step = step_later a (within_same c.used); waiting = refl; casing = sym (append_nil _) }
+    record { tree = knil; row = []; parsed = refl; stands = refl; step = step_later a (within_same c.used); waiting = refl; casing = sym (append-nil _) }
 
 pub cases_after : {d n : ℕ} {a b e f : Arena} {c c₁ c₂ c₃ : Cursor} {k : ReactiveSwitchCase} → CasesIn d n a b c c₁ → begin_case c₁ ≡ Ok (tt, c₂) → BlockIn (case_read d) (case_in d) b e c₂ c₃ k → CaseWaited e f k → CasesIn d (n + 1) a f c c₃
 cases_after {d} {n} {a} {b} {e} {f} {c} {c₁} {c₂} {c₃} {k} m h x p =

@@ -1,5 +1,5 @@
 -- What each way through the reading of the tables leaves. Assumes nothing.
-use Rattle.std.proofs.Common.{◌≡◌, ℕ, zero, suc, ◌+◌, ◌<◌, ◌≤◌, Bool, true, false, cond, eqb, List, [], ◌∷◌, ◌++◌, length, Ok, Err, vec_items, vec_len, Option, sym, refl, ap, ◌∙◌, subst, ap₂, append_assoc, append_nil, zero-add, add-one, arith, length-append, eq-eqb, ne_eqb}
+use Rattle.std.proofs.Common.{◌≡◌, ℕ, zero, suc, ◌+◌, ◌<◌, ◌≤◌, Bool, true, false, cond, eqb, List, [], ◌∷◌, ◌++◌, length, Ok, Err, vec_items, vec_len, Option, sym, refl, ap, ◌∙◌, subst, ap₂, append_assoc, append-nil, zero-add, add-one, arith, length-append, eq-eqb, ne_eqb}
 use Rattle.hir.specs.declared.environment.Declared.{Declared}
 use Rattle.hir.specs.declared.environment.Environment.{Environment}
 use Rattle.hir.specs.declared.environment.Identifier.{Identifier}
@@ -55,7 +55,7 @@ ended p n (w ∷ ws) d h = absurd (let z : ◌≡◌ {A = ℕ} 0 1 = ap (λ b. c
 
 pub mid_end : {X : Type 0} (p : Cursor → Read X) {row : List X} {c d : Cursor} → Midway p row c d → none_left d.rest ≡ true → every p c ≡ Ok (row, d)
 mid_end p {row} {c} {d} m h =
-    m.same ∙ ap (λ q. onto q (λ ys f. Ok (row ++ ys, f))) (ended p m.left d.rest d h) ∙ ap (λ l. Ok (l, d)) (append_nil row)
+    m.same ∙ ap (λ q. onto q (λ ys f. Ok (row ++ ys, f))) (ended p m.left d.rest d h) ∙ ap (λ l. Ok (l, d)) (append-nil row)
 
 -- ---- identifiers
 abbrev pub IdentifierAdded : Environment → Environment → Identifier → Type 0
@@ -69,7 +69,7 @@ IdentifierAdded a b i =
     }
 
 pub identifiers_first : {a : Environment} (c : Cursor) → TablesRoom a c.used → IdentifiersMid a a c c
-identifiers_first {a} c r = record { row = []; mid = mid_first identifier c; items = sym (append_nil _); room = r; scopes = refl; declarations = refl; counters = refl }
+identifiers_first {a} c r = record { row = []; mid = mid_first identifier c; items = sym (append-nil _); room = r; scopes = refl; declarations = refl; counters = refl }
 
 pub identifiers_next : {a b e : Environment} {c d f : Cursor} {i : Identifier} → IdentifiersMid a b c d → none_left d.rest ≡ false → identifier d ≡ Ok (i, f) → IdentifierAdded b e i → IdentifiersMid a e c f
 identifiers_next {a} {b} {e} {c} {d} {f} {i} m h r p =
@@ -113,7 +113,7 @@ declared_after n [] d = refl
 declared_after n (e ∷ ds) d = ap (λ l. record { owner = n; declaration = e } ∷ l) (declared_after n ds d)
 
 pub declarations_none : {o : ℕ} {a : Environment} {c : Cursor} → TablesRoom a c.used → DeclarationsIn o 0 a a c c
-declarations_none r = record { row = []; parsed = refl; items = sym (append_nil _); room = r; later = omega arith; scopes = refl; identifiers = refl; counters = refl }
+declarations_none r = record { row = []; parsed = refl; items = sym (append-nil _); room = r; later = omega arith; scopes = refl; identifiers = refl; counters = refl }
 
 pub declarations_after : {o n : ℕ} {a b e : Environment} {c d f : Cursor} {x : ReactiveScopeDeclaration} → DeclarationsIn o n a b c d → declaration d ≡ Ok (x, f) → DeclarationAdded b e (record { owner = o; declaration = x }) → DeclarationsIn o (n + 1) a e c f
 declarations_after {o} {n} {a} {b} {e} {c} {d} {f} {x} m r p =
@@ -195,7 +195,7 @@ from_kept : (x n : ℕ) (ss : List ReactiveScope) (ds : List Declared) (es : Lis
 from_kept x n [] ds es h = refl
 from_kept x n (s ∷ ss) ds es h =
     ap₂ (λ l r. record { early = s.early; declarations = l } ∷ r)
-    (owned_append x ds (declared n es) ∙ ap (λ l. owned x ds ++ l) (owned_before x n es (omega arith)) ∙ append_nil (owned x ds))
+    (owned_append x ds (declared n es) ∙ ap (λ l. owned x ds ++ l) (owned_before x n es (omega arith)) ∙ append-nil (owned x ds))
     (from_kept (suc x) n ss ds es (omega arith))
 
 from_last : (x : ℕ) (ss : List ReactiveScope) (s : ReactiveScope) (ds : List Declared) → scopes_from x (ss ++ s ∷ []) ds ≡ scopes_from x ss ds ++ record { early = s.early; declarations = owned (x + length ss) ds } ∷ []
@@ -207,7 +207,7 @@ more : (e b : Environment) {d f : Cursor} → ScopeIn b e d f → vec_len e.scop
 more e b s = omega (arith, e.scopes.ok.0, b.scopes.ok.0, ap length s.scopes ∙ length-append (vec_items b.scopes) (record { early = s.info.early } ∷ []))
 
 pub scopes_first : {a : Environment} (c : Cursor) → TablesRoom a c.used → Owners a → ScopesMid a a c c
-scopes_first c r o = record { row = []; mid = mid_first scope_info c; stands = sym (append_nil _); owners = o; room = r; identifiers = refl; counters = refl }
+scopes_first c r o = record { row = []; mid = mid_first scope_info c; stands = sym (append-nil _); owners = o; room = r; identifiers = refl; counters = refl }
 
 pub scopes_next : {a b e : Environment} {c d f : Cursor} → ScopesMid a b c d → none_left d.rest ≡ false → ScopeIn b e d f → ScopesMid a e c f
 scopes_next {a} {b} {e} {c} {d} {f} m h s =

@@ -1,5 +1,5 @@
 -- What each way through the reading of a value leaves. Assumes nothing.
-use Rattle.std.proofs.Common.{◌≡◌, ℕ, zero, suc, ◌+◌, ◌-◌, ◌<◌, ◌≤◌, Bool, ◌≢◌, List, [], ◌∷◌, ◌++◌, length, take, drop, Some, None, Ok, Err, vec_items, vec_len, Option, Result, sym, refl, ap, ◌∙◌, append_assoc, append_nil, add-one, arith, length-append}
+use Rattle.std.proofs.Common.{◌≡◌, ℕ, zero, suc, ◌+◌, ◌-◌, ◌<◌, ◌≤◌, Bool, ◌≢◌, List, [], ◌∷◌, ◌++◌, length, take, drop, Some, None, Ok, Err, vec_items, vec_len, Option, Result, sym, refl, ap, ◌∙◌, append_assoc, append-nil, add-one, arith, length-append}
 use Rattle.std.proofs.lemmas.List.{drop_at, take_at}
 use Rattle.std.proofs.lemmas.Result.{MatchResult-weaker}
 use Rattle.hir.specs.declared.place.Place.{Place}
@@ -162,7 +162,7 @@ Waited a b i =
     }
 
 pub instrs_none : {d : ℕ} {a : ValueArena} {c : Cursor} → InstrsIn d 0 a a c c
-instrs_none {d} {a} {c} = record { tree = inil; row = []; parsed = refl; stands = refl; step = step_later a (within_same c.used); waiting = sym (append_nil _) }
+instrs_none {d} {a} {c} = record { tree = inil; row = []; parsed = refl; stands = refl; step = step_later a (within_same c.used); waiting = sym (append-nil _) }
 
 pub instrs_after : {d n : ℕ} {a b e f : ValueArena} {c c₁ c₂ c₃ : Cursor} {i : ReactiveInstruction} → InstrsIn d n a b c c₁ → begin_statement c₁ ≡ Ok (tt, c₂) → ValueIn (instr_read (value d)) (instr_in d) b e c₂ c₃ i → Waited e f i → InstrsIn d (n + 1) a f c c₃
 instrs_after {d} {n} {a} {b} {e} {f} {c} {c₁} {c₂} {c₃} {i} m h x p =

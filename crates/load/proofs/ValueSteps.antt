@@ -1,5 +1,5 @@
 -- How the parts of a value go together. Assumes nothing.
-use Rattle.std.proofs.Common.{◌≡◌, ℕ, zero, suc, ◌+◌, ◌-◌, ◌<◌, ◌≤◌, List, [], ◌∷◌, ◌++◌, length, take, drop, Some, None, Ok, Err, vec_items, vec_len, Option, sym, refl, ap, ◌∙◌, append_assoc, append_nil, add-one, arith, length-append}
+use Rattle.std.proofs.Common.{◌≡◌, ℕ, zero, suc, ◌+◌, ◌-◌, ◌<◌, ◌≤◌, List, [], ◌∷◌, ◌++◌, length, take, drop, Some, None, Ok, Err, vec_items, vec_len, Option, sym, refl, ap, ◌∙◌, append_assoc, append-nil, add-one, arith, length-append}
 use Rattle.std.proofs.lemmas.List.{drop_at, take_at}
 use Rattle.hir.specs.declared.place.Place.{Place}
 use Rattle.hir.specs.declared.range.Range.{Range}
@@ -85,7 +85,7 @@ places_repeat = record { none = λ c. refl; next = λ n c. refl; last = λ x. re
 
 pub places_none : {a : ValueArena} {c : Cursor} → PlacesIn 0 a a c c
 places_none {a} {c} =
-    record { row = []; parsed = refl; long = refl; added = sym (append_nil _); step = step_later a (within_same c.used); waiting = refl }
+    record { row = []; parsed = refl; long = refl; added = sym (append-nil _); step = step_later a (within_same c.used); waiting = refl }
 
 pub places_after : {n : ℕ} {a b e : ValueArena} {c d f : Cursor} {p : Place} → PlacesIn n a b c d → place d ≡ Ok (p, f) → PlaceAdded b e p → PlacesIn (n + 1) a e c f
 places_after {n} {a} {b} {e} {c} {d} {f} {p} m r h =

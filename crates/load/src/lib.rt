@@ -1,4 +1,6 @@
 // Loads a function file into tables.
+#![tactic(auto)]
+
 pub mod add;
 pub mod begins;
 pub mod file;

@@ -1,4 +1,6 @@
 // Times loads with writes: `measure load FILE ROUNDS` prints the nanoseconds that a round took, best of several.
+#![tactic(auto)]
+
 use anyhow::anyhow;
 use hir::tables::Tables;
 use load::load::load;

@@ -1,5 +1,7 @@
 // Times runs that are spent: `measure_run FILE BUDGET TURNS` prints the nanoseconds of a run on the number host from a store
 // of zeros, best of so many.
+#![tactic(auto)]
+
 use anyhow::anyhow;
 use hir::tables::Tables;
 use host::NumberHost;

@@ -1,4 +1,6 @@
 // Reads words in decimal from standard input, and writes them as bytes to standard output.
+#![tactic(auto)]
+
 mod packing;
 
 use crate::packing::pack;

@@ -1,5 +1,5 @@
 -- What a step of decoding gives back: the entry, the row, and that what is inside decodes too.
-use Rattle.std.proofs.Common.{◌≡◌, ℕ, zero, suc, ◌+◌, ◌-◌, ◌<◌, ◌≤◌, Bool, true, false, cond, leb, List, [], ◌∷◌, length, get_or, take, drop, Some, None, Option, refl, ◌∙◌, arith, leb-true}
+use Rattle.std.proofs.Common.{◌≡◌, ℕ, zero, suc, ◌+◌, ◌<◌, ◌≤◌, Bool, true, false, cond, leb, List, [], ◌∷◌, length, get_or, take, drop, Some, None, Option, refl, ◌∙◌, arith, leb-true}
 use Rattle.hir.specs.declared.range.Range.{Range}
 use Rattle.hir.specs.Options.{bind, nth, part}
 

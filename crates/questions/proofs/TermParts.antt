@@ -1,5 +1,5 @@
 -- A terminal by its parts: they decode where it does, and its answers and lines are theirs, one part after another.
-use Rattle.std.proofs.Common.{◌≡◌, ℕ, ◌+◌, cond, ◌&&◌, List, [], ◌∷◌, ◌++◌, length, take, drop, Some, None, Option, sym, refl, ap, ◌∙◌, subst, ap₂, append_assoc, append_nil}
+use Rattle.std.proofs.Common.{◌≡◌, ℕ, cond, ◌&&◌, List, [], ◌∷◌, ◌++◌, length, take, drop, Some, None, Option, sym, refl, ap, ◌∙◌, subst, ap₂, append_assoc, append-nil}
 use lib.Dec.{leb-zero}
 use Rattle.hir.specs.declared.place.Place.{Place}
 use Rattle.hir.specs.declared.range.Range.{Range}
@@ -43,13 +43,13 @@ tests_row B block (c ∷ l) cs e =
 
 -- the lists of a terminal's parts, with the missing ones
 two_last : {X : Type 0} (b c : List X) → b ++ c ≡ b ++ (c ++ [])
-two_last b c = ap (λ l. b ++ l) (sym (append_nil c))
+two_last b c = ap (λ l. b ++ l) (sym (append-nil c))
 
 after_block : {X : Type 0} (b v : List X) → b ++ v ≡ b ++ ((v ++ []) ++ [])
 after_block b v = two_last b v ∙ two_last b (v ++ [])
 
 before_block : {X : Type 0} (v b : List X) → v ++ b ≡ (v ++ []) ++ (b ++ [])
-before_block v b = ap₂ ◌++◌ (sym (append_nil v)) (sym (append_nil b))
+before_block v b = ap₂ ◌++◌ (sym (append-nil v)) (sym (append-nil b))
 
 three_values : {X : Type 0} (n v u b : List X) → n ++ (v ++ (u ++ b)) ≡ (n ++ (v ++ u)) ++ (b ++ [])
 three_values n v u b = ap (λ l. n ++ l) (sym (append_assoc v u b)) ∙ sym (append_assoc n (v ++ u) b) ∙ two_last (n ++ (v ++ u)) b
@@ -152,7 +152,7 @@ module _ (a : Slots) (block : Range → Option Block) where
         other = no_block_lem;
         cases = no_cases;
         numbers = λ B. refl;
-        ops = sym (append_nil (val_ops v));
+        ops = sym (append-nil (val_ops v));
         aims = λ s. refl;
         lines = λ B m s. after_block (block_lines B b (in_loop (mark m) (labelled (mark m) s))) (val_lines B v);
       }
@@ -166,7 +166,7 @@ module _ (a : Slots) (block : Range → Option Block) where
         other = no_block_lem;
         cases = no_cases;
         numbers = λ B. refl;
-        ops = sym (append_nil (val_ops v));
+        ops = sym (append-nil (val_ops v));
         aims = λ s. refl;
         lines = λ B m s. before_block (val_lines B v) (block_lines B b (in_loop (mark m) (labelled (mark m) s)));
       }
@@ -208,7 +208,7 @@ module _ (a : Slots) (block : Range → Option Block) where
         other = no_block_lem;
         cases = no_cases;
         numbers = λ B. refl;
-        ops = sym (append_nil (val_ops v));
+        ops = sym (append-nil (val_ops v));
         aims = λ s. refl;
         lines = λ B m s. before_block (val_lines B v) (block_lines B b (in_loop (mark m) (labelled (mark m) s)));
       }
@@ -238,7 +238,7 @@ module _ (a : Slots) (block : Range → Option Block) where
         numbers = λ B. refl;
         ops = refl;
         aims = λ s. refl;
-        lines = λ B m s. sym (append_nil (block_lines B b (labelled (mark m) s)));
+        lines = λ B m s. sym (append-nil (block_lines B b (labelled (mark m) s)));
       }
 
   for_try : (r q : Range) (p : Option Place) (i : ℕ) (b c : Block) → block r ≡ Some b → block q ≡ Some c → TermParts a block (parts_of (R.Try r p q i)) (try b p c i)

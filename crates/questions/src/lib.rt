@@ -1,4 +1,6 @@
 // Whether the function that tables hold has its numbers in range, its operations in shape, its targets and its scopes.
+#![tactic(auto)]
+
 ghost use Rattle.std.specs.Prelude.{◌≡◌, ◌≤◌, true, false, is_some};
 ghost use Rattle.hir.specs.Decode.{root_of};
 ghost use Rattle.hir.specs.Held.{held, slots};

@@ -9,6 +9,7 @@ ghost use Rattle.questions.specs.Rows.{instrs_in};
 
 use crate::line::{Bounds, Findings, Line, note};
 use crate::operations::{NONE, Own, place_well, value_own};
+use hir::depth::deepest;
 use hir::place::Place;
 use hir::range::Range;
 use hir::value::{ReactiveInstruction, ReactiveValue};
@@ -109,7 +110,7 @@ pub fn top_instruction(
     requires { Decodes (instr_of (top_value (value_slots arena.now)) top) }
     ensures { Inner (instr_of (top_value (value_slots arena.now)) top) (instr_lines bounds) found result }
 {
-    instruction(arena, top, 64, bounds, found)
+    instruction(arena, top, deepest(), bounds, found)
 }
 
 // The instructions inside a terminal's value.
@@ -118,7 +119,7 @@ pub fn inside(arena: &ValueArena, slot: Option<u32>, bounds: Bounds, found: Find
     ensures { Inner (opt_value_of (top_value (value_slots arena.now)) slot) (opt_val_lines bounds) found result }
 {
     match slot {
-        Some(slot) => value(arena, slot, 64, bounds, found),
+        Some(slot) => value(arena, slot, deepest(), bounds, found),
         None => found,
     }
 }
@@ -129,7 +130,7 @@ pub fn inside_own(arena: &ValueArena, slot: Option<u32>, bounds: Bounds) -> Own
     ensures { Same (opt_value_of (top_value (value_slots arena.now)) slot) (λ v. own_of bounds (opt_val_ops v)) result }
 {
     match slot {
-        Some(slot) => value_own(arena, slot, 64, bounds),
+        Some(slot) => value_own(arena, slot, deepest(), bounds),
         None => NONE,
     }
 }

@@ -1,4 +1,6 @@
 // Loads a file and writes the function back: the same bytes, or a refusal that leaves the buffer as it was.
+#![tactic(auto)]
+
 ghost use Rattle.std.specs.Prelude.{◌≡◌, false, MatchResult};
 ghost use Rattle.rewrite.specs.Rewrites.{Back, Kept};
 

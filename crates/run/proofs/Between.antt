@@ -1,6 +1,6 @@
 -- The entries of a list from a place up to another.
 -- The first of them, and none.
-use Rattle.std.proofs.Common.{◌≡◌, ℕ, suc, ◌+◌, ◌-◌, ◌<◌, ◌≤◌, List, [], ◌∷◌, take, drop, Some, sym, refl, ap, ◌∙◌, add-one, arith}
+use Rattle.std.proofs.Common.{◌≡◌, ℕ, suc, ◌+◌, ◌-◌, ◌<◌, ◌≤◌, List, [], ◌∷◌, take, drop, Some, sym, ap, ◌∙◌, add-one, arith}
 use Rattle.hir.specs.Options.{nth}
 use Rattle.run.specs.Operands.{between}
 use Rattle.run.proofs.Rows.{drop_nth}

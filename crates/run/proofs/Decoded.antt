@@ -1,17 +1,15 @@
 -- The parts of what stands in a slot or a row.
 -- Each form of slot has one lemma: what it stands for, and what its own slots stand for.
-use Rattle.std.proofs.Common.{◌≡◌, ℕ, zero, suc, ◌+◌, ◌-◌, ◌<◌, ◌≤◌, Bool, List, [], ◌∷◌, length, drop, Some, None, Option, sym, refl, ap, ◌∙◌, subst, arith}
-use Rattle.hir.specs.declared.place.Place.{Place}
+use Rattle.std.proofs.Common.{◌≡◌, ℕ, zero, suc, ◌+◌, ◌-◌, ◌<◌, ◌≤◌, Bool, List, [], ◌∷◌, length, drop, Some, Option, sym, ap, ◌∙◌, subst, arith}
 use Rattle.hir.specs.declared.range.Range.{Range}
 use Rattle.hir.specs.declared.value.InstructionValue.{InstructionValue}
 use Rattle.hir.specs.declared.value.LogicalOperator.{LogicalOperator}
 use Rattle.hir.specs.declared.value.ReactiveValue.{ReactiveValue}
 use Rattle.hir.specs.declared.value.ReactiveValue.TheVariants as V
 use Rattle.hir.specs.declared.value.ReactiveInstruction.{ReactiveInstruction}
-use Rattle.hir.specs.declared.statement.ReactiveStatement.{ReactiveStatement}
 use Rattle.hir.specs.declared.terminal.ReactiveSwitchCase.{ReactiveSwitchCase}
 use Rattle.hir.specs.Options.{bind, nth, part}
-use Rattle.hir.specs.Decode.{ValueSlots, Slots, op_of, instr_of, instrs_of, val_of, value_of, top_value, opt_block_of, cases_of, stmt_of, slot_of, body_of, block_of}
+use Rattle.hir.specs.Decode.{ValueSlots, Slots, op_of, instr_of, instrs_of, val_of, value_of, opt_block_of, cases_of, slot_of, body_of, block_of}
 use Rattle.hir.specs.Tree.{Op, Val, operation, logical, conditional, sequence, optional, Instr, instr, Instrs, inil, icons, Stmt, Cases, knil, kcons, OptBlock, Block, nil, cons}
 use Rattle.run.specs.Frames.{value_at, instrs_at, block_at, stmt_at, cases_at}
 use Rattle.run.proofs.Rows.{none_some, bound, some_is, nth_in, behind, row_in, row_nil, row_cons, row_behind}

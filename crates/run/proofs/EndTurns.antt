@@ -1,6 +1,6 @@
 -- The turns of what ends a statement, and of what a way that ends otherwise passes over.
 -- Only throws are caught; a spent run passes over everything.
-use Rattle.std.proofs.Common.{◌≡◌, ℕ, zero, suc, ◌+◌, ◌-◌, ◌*◌, ◌<◌, ◌≤◌, Bool, true, false, List, [], ◌∷◌, ◌++◌, length, Some, None, Option, sym, refl, ap, ◌∙◌, subst, arith}
+use Rattle.std.proofs.Common.{◌≡◌, ℕ, ◌+◌, ◌<◌, ◌≤◌, Bool, false, List, [], ◌∷◌, ◌++◌, length, Some, None, Option, sym, refl, ap, ◌∙◌, subst, arith}
 use Rattle.std.proofs.lemmas.Bool.{true≢false}
 use Rattle.hir.specs.declared.place.Place.{Place}
 use Rattle.hir.specs.declared.range.Range.{Range}
@@ -15,7 +15,7 @@ use Rattle.run.specs.declared.frame.Frame.{Frame}
 use Rattle.run.specs.declared.frame.Frame.TheVariants as F
 use Rattle.run.specs.Exits.{exit_from, onto, takes}
 use Rattle.run.specs.Frames.{Means}
-use Rattle.run.specs.Tasks.{Loop, test_first, block_first, updating, Task, block, begun, value, assigns, instrs, after_left, after_test, leaves, ends_label, ends_loop, ends_switch, ends_round, starts, rounds, tests, selects, cases, catches, around, act, resume, runs, w_v, w_is, w_b, w_k, w_tests, weight, weights, owing, owed}
+use Rattle.run.specs.Tasks.{Loop, test_first, block_first, updating, Task, block, begun, value, assigns, instrs, after_left, after_test, leaves, ends_label, ends_loop, ends_switch, ends_round, starts, rounds, tests, selects, cases, catches, around, act, resume, runs, w_v, w_is, w_b, w_k, w_tests, weight, weights, owing}
 use Rattle.run.specs.Turn.{Leads, Next, Calm, result, state_of, kept}
 use Rattle.run.proofs.Stack.{Opened, opened, closes}
 use Rattle.run.proofs.Turning.{calm_false, next}

@@ -1,6 +1,6 @@
 -- A jump's target is around it where it is among the frames.
 -- The frames that end loops, switches and labeled statements are what stands around.
-use Rattle.std.proofs.Common.{◌≡◌, ℕ, zero, suc, ◌+◌, ◌<◌, Bool, true, false, ◌||◌, eqb, List, [], ◌∷◌, ◌++◌, length, get_or, take, Some, None, Option, sym, refl, ap, ◌∙◌, subst, add-one, arith, take-suc}
+use Rattle.std.proofs.Common.{◌≡◌, ℕ, zero, suc, ◌+◌, ◌<◌, Bool, true, false, ◌||◌, List, [], ◌∷◌, ◌++◌, length, get_or, take, Some, None, Option, sym, refl, ap, ◌∙◌, add-one, arith, take-suc}
 use Rattle.hir.specs.Decode.{Slots}
 use Rattle.semantics.specs.Targets.{Around, nowhere, has, labelled, in_loop, in_switch}
 use Rattle.run.specs.declared.frame.Frame.{Frame}

@@ -1,13 +1,12 @@
 -- The turns of a loop: its start, the beginning of a round, what its test leads to.
 -- A round costs a step; the rounds left stay above the steps left, so a loop is never short of rounds.
-use Rattle.std.proofs.Common.{◌≡◌, ℕ, zero, suc, ◌+◌, ◌-◌, ◌*◌, ◌<◌, ◌≤◌, Bool, true, false, eqb, ltb, List, [], ◌∷◌, ◌++◌, Some, None, Option, sym, refl, ap, ◌∙◌, subst, arith}
+use Rattle.std.proofs.Common.{◌≡◌, ℕ, zero, suc, ◌+◌, ◌-◌, ◌<◌, ◌≤◌, Bool, true, false, eqb, ltb, List, [], ◌∷◌, ◌++◌, Some, None, Option, sym, refl, ap, ◌∙◌, subst, arith}
 use Rattle.std.proofs.lemmas.Bool.{lt-ltb, le-ltb}
 use Rattle.hir.specs.declared.range.Range.{Range}
 use Rattle.hir.specs.Decode.{Slots, top_value, opt_value_of}
-use Rattle.hir.specs.Options.{bind as bind_o}
 use Rattle.hir.specs.Tree.{Val, OptVal, no_val, some_val, Block}
 use Rattle.host.specs.declared.Reply.TheVariants.{Value, Thrown}
-use Rattle.semantics.specs.Machine.{Meaning, State, Out, normal, broke, continued, returned, threw, Result, done, spent, stepped, bind, map_out, test, branch, ask, on_reply, tick, iter}
+use Rattle.semantics.specs.Machine.{Meaning, State, normal, broke, continued, returned, threw, Result, done, spent, stepped, bind, map_out, test, branch, ask, on_reply, tick, iter}
 use Rattle.semantics.specs.Targets.{Around, aim_b}
 use Rattle.semantics.specs.Exec.{within, end_round}
 use Rattle.run.specs.declared.frame.Exit.{Exit}
@@ -17,10 +16,10 @@ use Rattle.run.specs.declared.frame.Loop.TheVariants.{TestFirst, BlockFirst, Upd
 use Rattle.run.specs.declared.frame.Frame.{Frame}
 use Rattle.run.specs.declared.frame.Frame.TheVariants as F
 use Rattle.run.specs.Frames.{value_at, block_at, loop_at}
-use Rattle.run.specs.Tasks.{Loop, test_first, block_first, updating, Task, block, value, ends_loop, ends_round, starts, rounds, tests, around, act, resume, runs, values, after_yes, round_of, w_loop, w_tests, weights}
+use Rattle.run.specs.Tasks.{Loop, test_first, block_first, updating, block, value, ends_loop, ends_round, starts, rounds, tests, around, resume, runs, values, after_yes, round_of, w_loop, w_tests, weights}
 use Rattle.run.specs.Turn.{Leads, Next, state_of, test_of}
 use Rattle.run.proofs.Rows.{bound, some_is}
-use Rattle.run.proofs.Stack.{Opened, later}
+use Rattle.run.proofs.Stack.{later}
 use Rattle.run.proofs.StatementParts.{top_at}
 use Rattle.run.proofs.Turning.{top, stay, goes, paying, snoc_length}
 

@@ -1,6 +1,6 @@
 -- The record of a scope in the tables.
 -- The function's list of scopes has each scope's record at its place.
-use Rattle.std.proofs.Common.{◌≡◌, ℕ, zero, suc, ◌+◌, ◌<◌, ◌≤◌, List, [], ◌∷◌, length, get_or, Some, None, vec_items, Option, sym, refl, ap, ◌∙◌, arith}
+use Rattle.std.proofs.Common.{◌≡◌, ℕ, zero, suc, ◌<◌, ◌≤◌, List, [], ◌∷◌, length, get_or, None, vec_items, sym, refl, ap, arith}
 use Rattle.hir.specs.Held.{held, scopes_from}
 use Rattle.hir.specs.Tables.{function_of}
 use Rattle.hir.specs.declared.environment.Declared.{Declared}

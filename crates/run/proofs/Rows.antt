@@ -1,6 +1,6 @@
 -- Options and rows of a list.
 -- A row's first entry, and the row behind it.
-use Rattle.std.proofs.Common.{◌≡◌, ℕ, zero, suc, ◌+◌, ◌-◌, ◌<◌, ◌≤◌, Bool, true, false, cond, leb, List, [], ◌∷◌, ◌++◌, length, get_or, take, drop, Some, None, Option, sym, refl, ap, ◌∙◌, subst, suc-le-suc, add-one, arith, drop-drop, leb-true}
+use Rattle.std.proofs.Common.{◌≡◌, ℕ, zero, suc, ◌+◌, ◌-◌, ◌<◌, ◌≤◌, Bool, true, false, cond, leb, List, [], ◌∷◌, length, get_or, take, drop, Some, None, Option, sym, refl, ap, ◌∙◌, suc-le-suc, add-one, arith, drop-drop, leb-true}
 use Rattle.std.proofs.lemmas.Bool.{le-leb}
 use Rattle.hir.specs.declared.range.Range.{Range}
 use Rattle.hir.specs.Options.{bind, nth, part}

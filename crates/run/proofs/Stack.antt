@@ -1,13 +1,13 @@
 -- The stack of frames and its tasks.
 -- A turn opens the top frame, and closes with the tasks that it leaves: lighter, or with a step paid.
-use Rattle.std.proofs.Common.{◌≡◌, ℕ, zero, suc, ◌+◌, ◌-◌, ◌*◌, ◌<◌, ◌≤◌, Bool, List, [], ◌∷◌, ◌++◌, length, Some, None, Option, sym, refl, ap, ◌∙◌, subst, suc-mul, add-one, arith}
+use Rattle.std.proofs.Common.{◌≡◌, ℕ, suc, ◌+◌, ◌-◌, ◌*◌, ◌<◌, ◌≤◌, Bool, List, [], ◌∷◌, ◌++◌, length, Option, sym, refl, ap, ◌∙◌, subst, suc-mul, add-one, arith}
 use Rattle.hir.specs.Decode.{Slots}
-use Rattle.semantics.specs.Machine.{Meaning, State, Result}
+use Rattle.semantics.specs.Machine.{Meaning, Result}
 use Rattle.run.specs.declared.frame.Exit.{Exit}
 use Rattle.run.specs.declared.frame.Frame.{Frame}
 use Rattle.run.specs.declared.frame.Frame.TheVariants as F
 use Rattle.run.specs.Frames.{Means, Stacked, known, weigh, weigh_all, measure}
-use Rattle.run.specs.Tasks.{Task, around, act, resume, weight, weights, w_v, w_is, w_s, w_b, w_k, count, w_loop, w_tests, owing, owed}
+use Rattle.run.specs.Tasks.{Task, around, act, resume, weight, weights, w_v, w_is, w_s, w_b, w_k, w_loop, w_tests, owing, owed}
 use Rattle.run.specs.Turn.{Leads, Calm, result, state_of}
 
 snoc_same : {X : Type 0} (xs ys : List X) (x y : X) → xs ++ x ∷ [] ≡ ys ++ y ∷ [] → (xs ≡ ys) × (x ≡ y)

@@ -1,6 +1,6 @@
 -- The parts of a statement in its slot.
 -- Each form has one lemma, as in Decoded.
-use Rattle.std.proofs.Common.{◌≡◌, ℕ, ◌<◌, List, length, Some, None, Option, sym, refl, ap, ◌∙◌, subst}
+use Rattle.std.proofs.Common.{◌≡◌, ℕ, ◌<◌, List, length, Some, Option, sym, ap, ◌∙◌}
 use Rattle.hir.specs.declared.place.Place.{Place}
 use Rattle.hir.specs.declared.range.Range.{Range}
 use Rattle.hir.specs.declared.value.ReactiveInstruction.{ReactiveInstruction}
@@ -13,11 +13,11 @@ use Rattle.hir.specs.declared.terminal.ReactiveTerminal.TheVariants as R
 use Rattle.hir.specs.declared.terminal.ReactiveTerminalStatement.{ReactiveTerminalStatement}
 use Rattle.hir.specs.declared.terminal.ReactiveSwitchCase.{ReactiveSwitchCase}
 use Rattle.hir.specs.Options.{bind, nth, part}
-use Rattle.hir.specs.Decode.{Slots, instr_of, value_of, top_value, opt_value_of, opt_block_of, cases_of, term_of, stmt_of, slot_of, block_of}
-use Rattle.hir.specs.Tree.{Val, OptVal, Instr, instr, Stmt, instruction, scope, pruned, terminal, Term, switch, do_while, while, for, for_of, for_in, if, label, try, Cases, OptBlock, Block}
+use Rattle.hir.specs.Decode.{Slots, instr_of, top_value, opt_value_of, opt_block_of, cases_of, term_of, stmt_of, block_of}
+use Rattle.hir.specs.Tree.{Val, OptVal, instr, Stmt, instruction, scope, pruned, terminal, Term, switch, do_while, while, for, for_of, for_in, if, label, try, Cases, OptBlock, Block}
 use Rattle.run.specs.declared.frame.Loop.TheVariants.{TestFirst, BlockFirst, Updating}
 use Rattle.run.specs.Frames.{value_at, block_at, stmt_at, cases_at, loop_at}
-use Rattle.run.specs.Tasks.{Loop, test_first, block_first, updating}
+use Rattle.run.specs.Tasks.{test_first, block_first, updating}
 use Rattle.run.proofs.Rows.{bound, some_is, nth_in}
 
 pub top_at : (a : Slots) (k : ℕ) (v : Val) → top_value a.inner k ≡ Some v → value_at 64 a.inner k ≡ Some v

@@ -1,20 +1,20 @@
 -- The turns of the tasks that a value leaves: a sequence's instructions, what takes a value, what tests one.
 -- An instruction of a sequence costs a step.
-use Rattle.std.proofs.Common.{◌≡◌, ℕ, zero, suc, ◌+◌, ◌-◌, ◌*◌, ◌<◌, ◌≤◌, Bool, true, false, eqb, ltb, List, [], ◌∷◌, ◌++◌, length, Some, None, Option, sym, refl, ap, ◌∙◌, subst, arith}
+use Rattle.std.proofs.Common.{◌≡◌, ℕ, suc, ◌+◌, ◌<◌, ◌≤◌, Bool, true, false, eqb, ltb, List, [], ◌∷◌, ◌++◌, length, Some, None, Option, refl, ap, ◌∙◌, arith}
 use Rattle.std.proofs.lemmas.Bool.{lt-ltb, le-ltb}
 use Rattle.hir.specs.declared.place.Place.{Place}
 use Rattle.hir.specs.declared.range.Range.{Range}
 use Rattle.hir.specs.declared.value.ReactiveInstruction.{ReactiveInstruction}
 use Rattle.hir.specs.Decode.{Slots}
 use Rattle.hir.specs.Options.{nth}
-use Rattle.hir.specs.Tree.{Instrs, inil, icons, instr}
+use Rattle.hir.specs.Tree.{inil, icons, instr}
 use Rattle.host.specs.declared.Reply.TheVariants.{Value, Thrown}
-use Rattle.semantics.specs.Machine.{Meaning, Result, bind, branch, ask, on_reply, tick, assign}
+use Rattle.semantics.specs.Machine.{Meaning, Result, bind, branch, ask, on_reply, tick}
 use Rattle.run.specs.declared.frame.Exit.{Exit}
 use Rattle.run.specs.declared.frame.Exit.TheVariants as E
 use Rattle.run.specs.declared.frame.Frame.{Frame}
 use Rattle.run.specs.declared.frame.Frame.TheVariants as F
-use Rattle.run.specs.Tasks.{Task, value, assigns, instrs, after_left, after_test, resume}
+use Rattle.run.specs.Tasks.{value, assigns, instrs, after_left, after_test}
 use Rattle.run.specs.Turn.{Leads, Next, kept, test_of}
 use Rattle.run.proofs.Decoded.{instrs_in, instrs_end, instrs_first}
 use Rattle.run.proofs.Rows.{behind}

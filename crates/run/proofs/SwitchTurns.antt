@@ -1,12 +1,12 @@
 -- The turns of a switch: case by case until one says yes, then the blocks from there on.
 -- With no yes the first case without a test is taken, or none.
-use Rattle.std.proofs.Common.{◌≡◌, ℕ, zero, suc, ◌+◌, ◌-◌, ◌*◌, ◌<◌, ◌≤◌, Bool, true, false, eqb, List, [], ◌∷◌, ◌++◌, length, Some, None, Option, sym, refl, ap, ◌∙◌, subst, le_refl, add-zero, add-one, arith}
+use Rattle.std.proofs.Common.{◌≡◌, ℕ, zero, suc, ◌+◌, ◌<◌, ◌≤◌, Bool, true, false, eqb, List, [], ◌∷◌, ◌++◌, length, Some, None, Option, sym, refl, ap, ◌∙◌, subst, le_refl, add-zero, add-one, arith}
 use Rattle.hir.specs.declared.place.Place.{Place}
 use Rattle.hir.specs.declared.range.Range.{Range}
 use Rattle.hir.specs.declared.terminal.ReactiveSwitchCase.{ReactiveSwitchCase}
 use Rattle.hir.specs.Decode.{Slots, opt_block_of}
 use Rattle.hir.specs.Options.{nth}
-use Rattle.hir.specs.Tree.{Cases, knil, kcons, OptBlock, no_block, some_block, Block}
+use Rattle.hir.specs.Tree.{Cases, knil, kcons, OptBlock, no_block, some_block}
 use Rattle.host.specs.declared.Reply.TheVariants.{Value, Thrown}
 use Rattle.semantics.specs.Machine.{Meaning, State, Result, bind, map_out, branch, ask, on_reply, look}
 use Rattle.semantics.specs.Targets.{Around, in_switch, aim_k, aim_o}
@@ -16,8 +16,8 @@ use Rattle.run.specs.declared.frame.Exit.TheVariants as E
 use Rattle.run.specs.declared.frame.Selection.{Selection}
 use Rattle.run.specs.declared.frame.Frame.{Frame}
 use Rattle.run.specs.declared.frame.Frame.TheVariants as F
-use Rattle.run.specs.Frames.{AtMost, block_at, cases_at}
-use Rattle.run.specs.Tasks.{Task, block, ends_switch, selects, cases, first, around, act, resume, w_k, count}
+use Rattle.run.specs.Frames.{AtMost, block_at}
+use Rattle.run.specs.Tasks.{block, ends_switch, selects, cases, first, around, resume, w_k}
 use Rattle.run.specs.Turn.{Leads, Next, state_of, case_of}
 use Rattle.run.proofs.Decoded.{drop_k, cases_in, cases_end, cases_first, cases_behind}
 use Rattle.run.proofs.Rows.{behind, bound, some_is}

@@ -1,6 +1,6 @@
 -- The turns of terminals, once their step is paid.
 -- A label's end lies below the parts of its statement; a jump has nothing inside.
-use Rattle.std.proofs.Common.{◌≡◌, ℕ, zero, suc, ◌+◌, ◌-◌, ◌*◌, ◌<◌, ◌≤◌, Bool, true, false, eqb, List, [], ◌∷◌, ◌++◌, length, Some, None, Option, sym, refl, ap, ◌∙◌, subst, zero-add, arith}
+use Rattle.std.proofs.Common.{◌≡◌, ℕ, suc, Bool, true, false, eqb, List, [], ◌∷◌, ◌++◌, length, Some, None, Option, sym, refl, ap, ◌∙◌, subst, zero-add, arith}
 use Rattle.hir.specs.declared.place.Place.{Place}
 use Rattle.hir.specs.declared.range.Range.{Range}
 use Rattle.hir.specs.declared.statement.ReactiveStatement.TheVariants as K
@@ -10,22 +10,21 @@ use Rattle.hir.specs.declared.terminal.ReactiveTerminalStatement.{ReactiveTermin
 use Rattle.hir.specs.declared.terminal.ReactiveTerminalTargetKind.TheVariants.{Implicit, Labeled, Unlabeled}
 use Rattle.hir.specs.Decode.{Slots}
 use Rattle.hir.specs.Options.{nth}
-use Rattle.hir.specs.Tree.{Val, OptBlock, no_block, some_block, Block, Stmt, terminal, Term, break, continue, return, throw, switch, do_while, while, for, for_of, for_in, if, label, try}
+use Rattle.hir.specs.Tree.{OptBlock, no_block, some_block, terminal, Term, break, continue, return, throw, switch, do_while, while, for, for_of, for_in, if, label, try}
 use Rattle.host.specs.declared.Reply.TheVariants.{Value, Thrown}
-use Rattle.semantics.specs.Machine.{Meaning, State, Result, bind, map_out, handle, branch, ask, on_reply, look}
+use Rattle.semantics.specs.Machine.{Meaning, Result, bind, map_out, branch, ask, on_reply, look}
 use Rattle.semantics.specs.Targets.{mark, labelled, in_switch, aim_k}
 use Rattle.semantics.specs.Exec.{default, select, run_from, end_loop, end_label, within}
 use Rattle.run.specs.declared.frame.Exit.{Exit}
 use Rattle.run.specs.declared.frame.Exit.TheVariants as E
 use Rattle.run.specs.declared.frame.Loop.TheVariants.{TestFirst, BlockFirst, Updating}
 use Rattle.run.specs.declared.frame.Selection.{Selection}
-use Rattle.run.specs.declared.frame.Target.{Target}
 use Rattle.run.specs.declared.frame.Target.TheVariants as T
 use Rattle.run.specs.declared.frame.Frame.{Frame}
 use Rattle.run.specs.declared.frame.Frame.TheVariants as F
 use Rattle.run.specs.Exits.{any}
-use Rattle.run.specs.Frames.{value_at, block_at, cases_at, loop_at}
-use Rattle.run.specs.Tasks.{Loop, test_first, block_first, updating, Task, block, begun, value, ends_label, starts, selects, catches, around, act, resume}
+use Rattle.run.specs.Frames.{block_at}
+use Rattle.run.specs.Tasks.{test_first, block_first, updating, block, begun, value, ends_label, starts, selects, catches, around, resume}
 use Rattle.run.specs.Turn.{Leads, Next, state_of, test_of}
 use Rattle.run.proofs.Jumps.{found, any_found}
 use Rattle.run.proofs.Rows.{bound, some_is}

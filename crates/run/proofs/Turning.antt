@@ -1,12 +1,12 @@
 -- How a turn of a run that goes on normally ends.
 -- It goes on normally with lighter tasks, or ends otherwise with lighter tasks, or has paid a step.
-use Rattle.std.proofs.Common.{◌≡◌, ℕ, zero, suc, ◌+◌, ◌-◌, ◌*◌, ◌<◌, ◌≤◌, Bool, true, false, List, [], ◌∷◌, ◌++◌, length, Option, sym, refl, ap, ◌∙◌, subst, add-zero, add-suc, add-one, arith, length-append}
+use Rattle.std.proofs.Common.{◌≡◌, ℕ, suc, ◌+◌, ◌<◌, ◌≤◌, Bool, false, List, [], ◌∷◌, ◌++◌, length, Option, sym, ap, ◌∙◌, subst, add-one, arith, length-append}
 use Rattle.hir.specs.Decode.{Slots}
-use Rattle.semantics.specs.Machine.{Meaning, State, Result, normal, done}
+use Rattle.semantics.specs.Machine.{Meaning, Result, normal, done}
 use Rattle.run.specs.declared.frame.Exit.{Exit}
 use Rattle.run.specs.declared.frame.Exit.TheVariants as E
 use Rattle.run.specs.declared.frame.Frame.{Frame}
-use Rattle.run.specs.Frames.{Means, Stacked, measure}
+use Rattle.run.specs.Frames.{Stacked, measure}
 use Rattle.run.specs.Tasks.{Task, around, act, resume, weight, weights, owing, owed}
 use Rattle.run.specs.Turn.{Leads, Next, Calm, result, state_of}
 use Rattle.run.proofs.Stack.{Opened, opened, closes, pays}

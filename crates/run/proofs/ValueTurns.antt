@@ -1,31 +1,23 @@
 -- The turns of a value: its parts take its place.
 -- What a part gives is taken by the task behind it.
-use Rattle.std.proofs.Common.{◌≡◌, ℕ, zero, suc, ◌+◌, ◌-◌, ◌*◌, ◌<◌, ◌≤◌, Bool, true, false, eqb, ltb, List, [], ◌∷◌, ◌++◌, length, Some, None, Option, sym, refl, ap, ◌∙◌, subst, arith}
-use Rattle.hir.specs.declared.place.Place.{Place}
+use Rattle.std.proofs.Common.{◌≡◌, ℕ, suc, ◌-◌, ◌<◌, ◌≤◌, Bool, List, [], ◌∷◌, ◌++◌, length, Some, Option, refl, ap, ◌∙◌, arith}
 use Rattle.hir.specs.declared.range.Range.{Range}
 use Rattle.hir.specs.declared.value.InstructionValue.{InstructionValue}
 use Rattle.hir.specs.declared.value.LogicalOperator.{LogicalOperator}
 use Rattle.hir.specs.declared.value.ReactiveValue.TheVariants as V
-use Rattle.hir.specs.declared.value.ReactiveInstruction.{ReactiveInstruction}
 use Rattle.hir.specs.Decode.{Slots, op_of}
 use Rattle.hir.specs.Options.{nth}
-use Rattle.hir.specs.Tree.{Op, operation, logical, conditional, sequence, optional, Instrs, inil, icons, instr}
-use Rattle.host.specs.Asked.{asked}
-use Rattle.host.specs.declared.Reply.{Reply}
-use Rattle.host.specs.declared.Reply.TheVariants.{Value, Thrown}
-use Rattle.semantics.specs.Machine.{Meaning, State, Result, normal, done, threw, assign, bind, branch, ask, on_reply, tick}
+use Rattle.hir.specs.Tree.{Op, operation, logical, conditional, sequence, optional}
+use Rattle.semantics.specs.Machine.{Meaning, Result, bind}
 use Rattle.semantics.specs.Exec.{operator_number, class, eval_op}
 use Rattle.run.specs.declared.frame.Exit.{Exit}
 use Rattle.run.specs.declared.frame.Exit.TheVariants as E
 use Rattle.run.specs.declared.frame.Frame.{Frame}
 use Rattle.run.specs.declared.frame.Frame.TheVariants as F
-use Rattle.run.specs.Frames.{Means, Stacked, value_at}
-use Rattle.run.specs.Tasks.{Task, value, assigns, instrs, after_left, after_test, around, act, resume, weight, weights}
+use Rattle.run.specs.Tasks.{value, instrs, after_left, after_test, resume}
 use Rattle.run.specs.Turn.{Leads, Next, result, state_of}
-use Rattle.run.proofs.Decoded.{value_in, value_deep, operation_parts, logical_parts, conditional_parts, sequence_parts, optional_parts, instrs_in, instrs_end, instrs_first}
-use Rattle.run.proofs.Rows.{behind}
-use Rattle.run.proofs.Stack.{Opened, later}
-use Rattle.run.proofs.Turning.{top, stay, goes, paying, snoc_length}
+use Rattle.run.proofs.Decoded.{value_in, value_deep, operation_parts, logical_parts, conditional_parts, sequence_parts, optional_parts}
+use Rattle.run.proofs.Turning.{top, stay, goes, snoc_length}
 
 module _ {S : Type 0} (H : Meaning S) (B : ℕ) (rec : ℕ → Option ℕ) (a : Slots) (W : ℕ) (w : Result S) (fs : List Frame) {x : Exit}
     {h : S} {σ : List ℕ} {given steps entries : ℕ} {recorded : Bool} (n : x ≡ E.Normal) where

@@ -1,6 +1,6 @@
 -- A whole run: it begins with the body on the stack, and when nothing is left its exit is the result.
 -- Between them every turn leads to the same result.
-use Rattle.std.proofs.Common.{◌≡◌, ℕ, suc, ◌+◌, ◌*◌, ◌<◌, ◌≤◌, Bool, true, false, ltb, List, [], ◌∷◌, ◌++◌, length, is_some, Some, None, Ok, Err, Option, Result as Answer, unwrap_or, sym, refl, ap, ◌∙◌, subst, arith}
+use Rattle.std.proofs.Common.{◌≡◌, ℕ, ◌<◌, ◌≤◌, Bool, true, false, ltb, List, [], ◌∷◌, ◌++◌, length, is_some, Some, None, Ok, Err, Option, Result as Answer, unwrap_or, sym, refl, ap, ◌∙◌, subst, arith}
 use Rattle.std.proofs.lemmas.Bool.{true≢false, lt-ltb, le-ltb}
 use Rattle.fault.specs.declared.RunFault.{RunFault}
 use Rattle.fault.specs.declared.RunFault.TheVariants.{StoreTooShort, BudgetTooLarge}
@@ -8,12 +8,12 @@ use Rattle.hir.specs.declared.tables.Tables.{Tables}
 use Rattle.hir.specs.Decode.{Slots, root_of}
 use Rattle.hir.specs.Held.{held, slots}
 use Rattle.hir.specs.Tables.{function_of}
-use Rattle.hir.specs.Tree.{Block, nil, Function}
+use Rattle.hir.specs.Tree.{nil, Function}
 use Rattle.hir.specs.Numbers.{flag_number}
 use Rattle.semantics.specs.declared.Ran.{Ran}
 use Rattle.semantics.specs.declared.Outcome.{Outcome}
 use Rattle.semantics.specs.Machine.{Meaning, State, Result, bind}
-use Rattle.semantics.specs.Exec.{records_of, exec, last, outcome_of, ran}
+use Rattle.semantics.specs.Exec.{records_of, exec, last, outcome_of}
 use Rattle.run.specs.declared.frame.Exit.{Exit}
 use Rattle.run.specs.declared.frame.Exit.TheVariants as E
 use Rattle.run.specs.declared.frame.Frame.{Frame}
@@ -21,7 +21,7 @@ use Rattle.run.specs.declared.frame.Frame.TheVariants as F
 use Rattle.run.specs.declared.memory.Memory.{Memory}
 use Rattle.run.specs.Frames.{Stacked, block_at}
 use Rattle.run.specs.Runs.{refusal, Answered, told}
-use Rattle.run.specs.Tasks.{Task, block, weights, w_b, resume, owed}
+use Rattle.run.specs.Tasks.{Task, block, resume}
 use Rattle.run.specs.Turn.{Leads, Calm, result, state_of, whole_weight}
 
 -- ---- the beginning

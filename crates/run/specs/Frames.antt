@@ -1,6 +1,5 @@
 -- What the frames on a stack stand for. Assumes nothing.
-use Rattle.std.specs.Prelude.{◌≡◌, ℕ, suc, ◌+◌, ◌-◌, ◌*◌, ◌<◌, ◌≤◌, Bool, true, false, List, [], ◌∷◌, ◌++◌, length, Some, None, Option}
-use Rattle.hir.specs.declared.place.Place.{Place}
+use Rattle.std.specs.Prelude.{◌≡◌, ℕ, suc, ◌+◌, ◌-◌, ◌*◌, ◌<◌, ◌≤◌, List, [], ◌∷◌, ◌++◌, length, Some, None, Option}
 use Rattle.hir.specs.declared.range.Range.{Range}
 use Rattle.hir.specs.Options.{bind, part}
 use Rattle.hir.specs.Decode.{ValueSlots, Slots, value_of, top_value, instrs_of, opt_value_of, slot_of, block_of, cases_of}

@@ -1,8 +1,8 @@
 -- What is left of a run: a list of tasks, each with its meaning and its weight. Assumes nothing.
-use Rattle.std.specs.Prelude.{ℕ, zero, suc, ◌+◌, List, [], ◌∷◌, length, Some, None, Option}
+use Rattle.std.specs.Prelude.{ℕ, zero, suc, ◌+◌, List, [], ◌∷◌, Some, None, Option}
 use Rattle.hir.specs.declared.place.Place.{Place}
 use Rattle.hir.specs.Tree.{Val, operation, logical, conditional, sequence, optional, OptVal, no_val, some_val, Instr, instr, Instrs, inil, icons, Stmt, instruction, scope, pruned, terminal, Term, break, continue, return, throw, switch, do_while, while, for, for_of, for_in, if, label, try, Cases, knil, kcons, OptBlock, no_block, some_block, Block, nil, cons}
-use Rattle.semantics.specs.Machine.{Meaning, State, Out, normal, broke, Result, done, gave, assign, bind, handle, map_out, enter, leave, test, iter}
+use Rattle.semantics.specs.Machine.{Meaning, State, normal, broke, Result, done, gave, assign, bind, handle, map_out, enter, leave, test, iter}
 use Rattle.semantics.specs.Targets.{Around, nowhere, labelled, in_loop, in_switch, mark, mark_inside, aim_b, aim_k, aim_s}
 use Rattle.semantics.specs.Exec.{end_loop, end_round, end_label, default, eval_v, eval_is, eval_o, select, tested, run_b, run_t, run_from, within}
 

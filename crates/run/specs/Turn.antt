@@ -1,5 +1,5 @@
 -- What one turn of a run keeps. Assumes nothing.
-use Rattle.std.specs.Prelude.{◌≡◌, ℕ, suc, ◌+◌, ◌<◌, ◌≤◌, Bool, true, false, List, [], ◌∷◌, ◌++◌, Some, None, vec_items, Option}
+use Rattle.std.specs.Prelude.{◌≡◌, ℕ, ◌+◌, ◌<◌, ◌≤◌, Bool, false, List, [], ◌∷◌, ◌++◌, Some, None, vec_items, Option}
 use Rattle.hir.specs.declared.place.Place.{Place}
 use Rattle.hir.specs.Decode.{Slots}
 use Rattle.hir.specs.Held.{slots}
@@ -8,7 +8,7 @@ use Rattle.hir.specs.declared.tables.Tables.{Tables}
 use Rattle.hir.specs.Tables.{function_of}
 use Rattle.host.specs.Asked.{Asked, Keeps, asked}
 use Rattle.host.specs.declared.Reply.{Reply}
-use Rattle.semantics.specs.Machine.{Meaning, State, Out, normal, broke, continued, returned, threw, Result, done, spent, put}
+use Rattle.semantics.specs.Machine.{Meaning, State, normal, broke, continued, returned, threw, Result, done, spent, put}
 use Rattle.semantics.specs.Exec.{records_of}
 use Rattle.run.specs.declared.frame.Exit.{Exit}
 use Rattle.run.specs.declared.frame.Exit.TheVariants as E

@@ -6,8 +6,8 @@ use host::{Host, Question, Reply};
 
 pub fn ask_test<H: Host>(host: &mut H, values: &mut Vec<u32>, payload: u32, given: u32) -> Reply
     requires { 4097 ≤ vec_capacity values.old }
-    ensures answers { result ≡ answer (state host.old) (test_of payload given) }
-    ensures moves { state host.new ≡ next (state host.old) (test_of payload given) }
+    ensures answers { result ≡ H.answer (H.state host.old) (test_of payload given) }
+    ensures moves { H.state host.new ≡ H.next (H.state host.old) (test_of payload given) }
     ensures capacity { vec_capacity values.new ≡ vec_capacity values.old }
 {
     values.clear();
@@ -22,8 +22,8 @@ pub fn ask_test<H: Host>(host: &mut H, values: &mut Vec<u32>, payload: u32, give
 
 pub fn ask_case<H: Host>(host: &mut H, values: &mut Vec<u32>, value: u32, case: u32) -> Reply
     requires { 4097 ≤ vec_capacity values.old }
-    ensures answers { result ≡ answer (state host.old) (case_of value case) }
-    ensures moves { state host.new ≡ next (state host.old) (case_of value case) }
+    ensures answers { result ≡ H.answer (H.state host.old) (case_of value case) }
+    ensures moves { H.state host.new ≡ H.next (H.state host.old) (case_of value case) }
     ensures capacity { vec_capacity values.new ≡ vec_capacity values.old }
 {
     values.clear();

@@ -100,8 +100,8 @@ impl Memory {
         depth: u32,
     )
         requires room { vec_len self.old.frames ≤ 1000 }
-        requires ready { Ready answer next keeps tables.now budget self.old (CatchesFrame binding handler depth) store.old (state host.old) }
-        ensures { Turns answer next keeps tables.now budget self.old (CatchesFrame binding handler depth) store.old (state host.old) self.new store.new (state host.new) }
+        requires ready { Ready H.answer H.next H.keeps tables.now budget self.old (CatchesFrame binding handler depth) store.old (H.state host.old) }
+        ensures { Turns H.answer H.next H.keeps tables.now budget self.old (CatchesFrame binding handler depth) store.old (H.state host.old) self.new store.new (H.state host.new) }
     {
         match self.exit {
             Exit::Threw(v) => {
@@ -126,8 +126,8 @@ impl Memory {
         frame: Frame,
     )
         requires abrupt { self.old.exit ≢ Normal }
-        requires ready { Ready answer next keeps tables.now budget self.old (frame) store.old (state host.old) }
-        ensures { Turns answer next keeps tables.now budget self.old (frame) store.old (state host.old) self.new store.new (state host.new) }
+        requires ready { Ready H.answer H.next H.keeps tables.now budget self.old (frame) store.old (H.state host.old) }
+        ensures { Turns H.answer H.next H.keeps tables.now budget self.old (frame) store.old (H.state host.old) self.new store.new (H.state host.new) }
     {
         match frame {
             Frame::EndsLabel { label } => {

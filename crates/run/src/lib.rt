@@ -1,4 +1,6 @@
 // The run of a function over its tables: a loop with a stack of numbers, on lent memory.
+#![tactic(auto)]
+
 mod ask;
 mod ends;
 pub mod frame;

@@ -24,8 +24,8 @@ impl Memory {
     )
         requires normal { self.old.exit ≡ Normal }
         requires room { vec_len self.old.frames ≤ 1000 }
-        requires ready { Ready answer next keeps tables.now budget self.old (StartsFrame repeated label depth) store.old (state host.old) }
-        ensures { Turns answer next keeps tables.now budget self.old (StartsFrame repeated label depth) store.old (state host.old) self.new store.new (state host.new) }
+        requires ready { Ready H.answer H.next H.keeps tables.now budget self.old (StartsFrame repeated label depth) store.old (H.state host.old) }
+        ensures { Turns H.answer H.next H.keeps tables.now budget self.old (StartsFrame repeated label depth) store.old (H.state host.old) self.new store.new (H.state host.new) }
     {
         self.frames.push_reserved(Frame::EndsLoop { label });
         self.frames.push_reserved(Frame::Rounds {
@@ -47,8 +47,8 @@ impl Memory {
     )
         requires normal { self.old.exit ≡ Normal }
         requires room { vec_len self.old.frames ≤ 1000 }
-        requires ready { Ready answer next keeps tables.now budget self.old (RoundsFrame repeated label depth) store.old (state host.old) }
-        ensures { Turns answer next keeps tables.now budget self.old (RoundsFrame repeated label depth) store.old (state host.old) self.new store.new (state host.new) }
+        requires ready { Ready H.answer H.next H.keeps tables.now budget self.old (RoundsFrame repeated label depth) store.old (H.state host.old) }
+        ensures { Turns H.answer H.next H.keeps tables.now budget self.old (RoundsFrame repeated label depth) store.old (H.state host.old) self.new store.new (H.state host.new) }
     {
         if self.steps >= budget {
             self.exit = Exit::Spent;
@@ -102,8 +102,8 @@ impl Memory {
     )
         requires normal { self.old.exit ≡ Normal }
         requires room { vec_len self.old.frames ≤ 1000 }
-        requires ready { Ready answer next keeps tables.now budget self.old (TestsFrame repeated label depth) store.old (state host.old) }
-        ensures { Turns answer next keeps tables.now budget self.old (TestsFrame repeated label depth) store.old (state host.old) self.new store.new (state host.new) }
+        requires ready { Ready H.answer H.next H.keeps tables.now budget self.old (TestsFrame repeated label depth) store.old (H.state host.old) }
+        ensures { Turns H.answer H.next H.keeps tables.now budget self.old (TestsFrame repeated label depth) store.old (H.state host.old) self.new store.new (H.state host.new) }
     {
         let given = self.given;
         match ask_test(host, &mut self.values, 0, given) {

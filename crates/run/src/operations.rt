@@ -71,7 +71,7 @@ fn lay(tables: &Tables, store: &[u32], operands: Range, values: &mut Vec<u32>, g
 // Asks at position 0. The host is shown the operands' values, which lie behind the first.
 fn ask_first<H: Host>(host: &mut H, values: &[u32], kind: u32, payload: u32, given: u32) -> Did
     requires { 1 ≤ length values.now }
-    ensures { Asks answer next keeps kind payload (shown values.now) given (state host.old) (state host.new) result }
+    ensures { Asks H.answer H.next H.keeps kind payload (shown values.now) given (H.state host.old) (H.state host.new) result }
 {
     let question = Question {
         kind,
@@ -104,7 +104,7 @@ fn ask_each<H: Host>(
 ) -> Did
     requires within { to ≤ vec_len tables.now.arena.inner.places }
     requires some { 1 ≤ length values.now }
-    ensures { AsksEach answer next keeps kind payload (shown values.now) (between tables.now.arena.inner.places.items from to) given (state host.old) store.old (state host.new) store.new result }
+    ensures { AsksEach H.answer H.next H.keeps kind payload (shown values.now) (between tables.now.arena.inner.places.items from to) given (H.state host.old) store.old (H.state host.new) store.new result }
 {
     let mut given = given;
     for at in from..to {
@@ -144,7 +144,7 @@ fn ask_all<H: Host>(
 ) -> Did
     requires within { operation.written.start + operation.written.count ≤ vec_len tables.now.arena.inner.places }
     requires some { 1 ≤ length values.now }
-    ensures { AsksAll answer next keeps operation.kind operation.payload (shown values.now) (between tables.now.arena.inner.places.items operation.written.start (operation.written.start + operation.written.count)) given (state host.old) store.old (state host.new) store.new result }
+    ensures { AsksAll H.answer H.next H.keeps operation.kind operation.payload (shown values.now) (between tables.now.arena.inner.places.items operation.written.start (operation.written.start + operation.written.count)) given (H.state host.old) store.old (H.state host.new) store.new result }
 {
     let kind = operation.kind;
     let payload = operation.payload;
@@ -184,7 +184,7 @@ pub(crate) fn operate<H: Host>(
     requires written { operation.written.start + operation.written.count ≤ vec_len tables.now.arena.inner.places }
     requires operands { operation.operands.start + operation.operands.count ≤ vec_len tables.now.arena.inner.places }
     requires room { 4097 ≤ vec_capacity values.old }
-    ensures does { (o : Op) → op_of (value_slots tables.now.arena.inner) operation ≡ Some o → Does answer next keeps o given (state host.old) store.old (state host.new) store.new result }
+    ensures does { (o : Op) → op_of (value_slots tables.now.arena.inner) operation ≡ Some o → Does H.answer H.next H.keeps o given (H.state host.old) store.old (H.state host.new) store.new result }
     ensures capacity { vec_capacity values.new ≡ vec_capacity values.old }
 {
     let operands = operation.operands;

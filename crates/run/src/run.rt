@@ -48,9 +48,9 @@ impl Memory {
 
     // Turns until nothing is left.
     fn go<H: Host>(&mut self, tables: &Tables, host: &mut H, store: &mut [u32], budget: u32)
-        requires { (w : Part State) × At answer next keeps tables.now budget w self.old self.old.frames.items store.old (state host.old) }
+        requires { (w : Part H.State) × At H.answer H.next H.keeps tables.now budget w self.old self.old.frames.items store.old (H.state host.old) }
         ensures empty { self.new.frames.items ≡ [] }
-        ensures leads { (w : Part State) → At answer next keeps tables.now budget w self.old self.old.frames.items store.old (state host.old) → At answer next keeps tables.now budget w self.new self.new.frames.items store.new (state host.new) }
+        ensures leads { (w : Part H.State) → At H.answer H.next H.keeps tables.now budget w self.old self.old.frames.items store.old (H.state host.old) → At H.answer H.next H.keeps tables.now budget w self.new self.new.frames.items store.new (H.state host.new) }
     {
         while let Some(frame) = self.frames.pop() {
             self.turn(tables, host, store, budget, frame);
@@ -66,7 +66,7 @@ pub fn run<H: Host>(
     store: &mut [u32],
     budget: u32,
 ) -> Result<Ran, RunFault>
-    ensures { Answers answer next keeps (function_of tables.now) budget memory.old (state host.old) store.old result memory.new (state host.new) store.new }
+    ensures { Answers H.answer H.next H.keeps (function_of tables.now) budget memory.old (H.state host.old) store.old result memory.new (H.state host.new) store.new }
 {
     if store.len() < tables.environment.identifiers.len() {
         return Err(RunFault::StoreTooShort);

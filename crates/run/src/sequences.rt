@@ -27,8 +27,8 @@ impl Memory {
     )
         requires normal { self.old.exit ≡ Normal }
         requires room { vec_len self.old.frames ≤ 1000 }
-        requires ready { Ready answer next keeps tables.now budget self.old (InstructionsFrame rest depth) store.old (state host.old) }
-        ensures { Turns answer next keeps tables.now budget self.old (InstructionsFrame rest depth) store.old (state host.old) self.new store.new (state host.new) }
+        requires ready { Ready H.answer H.next H.keeps tables.now budget self.old (InstructionsFrame rest depth) store.old (H.state host.old) }
+        ensures { Turns H.answer H.next H.keeps tables.now budget self.old (InstructionsFrame rest depth) store.old (H.state host.old) self.new store.new (H.state host.new) }
     {
         if rest.count == 0 {
             return;
@@ -63,8 +63,8 @@ impl Memory {
         place: Option<Place>,
     )
         requires normal { self.old.exit ≡ Normal }
-        requires ready { Ready answer next keeps tables.now budget self.old (AssignsFrame place) store.old (state host.old) }
-        ensures { Turns answer next keeps tables.now budget self.old (AssignsFrame place) store.old (state host.old) self.new store.new (state host.new) }
+        requires ready { Ready H.answer H.next H.keeps tables.now budget self.old (AssignsFrame place) store.old (H.state host.old) }
+        ensures { Turns H.answer H.next H.keeps tables.now budget self.old (AssignsFrame place) store.old (H.state host.old) self.new store.new (H.state host.new) }
     {
         assign(store, place, self.given);
     }
@@ -81,8 +81,8 @@ impl Memory {
     )
         requires normal { self.old.exit ≡ Normal }
         requires room { vec_len self.old.frames ≤ 1000 }
-        requires ready { Ready answer next keeps tables.now budget self.old (AfterLeftFrame payload right depth) store.old (state host.old) }
-        ensures { Turns answer next keeps tables.now budget self.old (AfterLeftFrame payload right depth) store.old (state host.old) self.new store.new (state host.new) }
+        requires ready { Ready H.answer H.next H.keeps tables.now budget self.old (AfterLeftFrame payload right depth) store.old (H.state host.old) }
+        ensures { Turns H.answer H.next H.keeps tables.now budget self.old (AfterLeftFrame payload right depth) store.old (H.state host.old) self.new store.new (H.state host.new) }
     {
         let given = self.given;
         match ask_test(host, &mut self.values, payload, given) {
@@ -111,8 +111,8 @@ impl Memory {
     )
         requires normal { self.old.exit ≡ Normal }
         requires room { vec_len self.old.frames ≤ 1000 }
-        requires ready { Ready answer next keeps tables.now budget self.old (AfterTestFrame consequent alternate depth) store.old (state host.old) }
-        ensures { Turns answer next keeps tables.now budget self.old (AfterTestFrame consequent alternate depth) store.old (state host.old) self.new store.new (state host.new) }
+        requires ready { Ready H.answer H.next H.keeps tables.now budget self.old (AfterTestFrame consequent alternate depth) store.old (H.state host.old) }
+        ensures { Turns H.answer H.next H.keeps tables.now budget self.old (AfterTestFrame consequent alternate depth) store.old (H.state host.old) self.new store.new (H.state host.new) }
     {
         let given = self.given;
         match ask_test(host, &mut self.values, 0, given) {

@@ -44,8 +44,8 @@ impl Memory {
     )
         requires normal { self.old.exit ≡ Normal }
         requires room { vec_len self.old.frames ≤ 1000 }
-        requires ready { Ready answer next keeps tables.now budget self.old (BlockFrame rest depth) store.old (state host.old) }
-        ensures { Turns answer next keeps tables.now budget self.old (BlockFrame rest depth) store.old (state host.old) self.new store.new (state host.new) }
+        requires ready { Ready H.answer H.next H.keeps tables.now budget self.old (BlockFrame rest depth) store.old (H.state host.old) }
+        ensures { Turns H.answer H.next H.keeps tables.now budget self.old (BlockFrame rest depth) store.old (H.state host.old) self.new store.new (H.state host.new) }
     {
         if rest.count == 0 {
             return;
@@ -78,8 +78,8 @@ impl Memory {
     )
         requires normal { self.old.exit ≡ Normal }
         requires room { vec_len self.old.frames ≤ 1000 }
-        requires ready { Ready answer next keeps tables.now budget self.old (StatementFrame slot depth) store.old (state host.old) }
-        ensures { Turns answer next keeps tables.now budget self.old (StatementFrame slot depth) store.old (state host.old) self.new store.new (state host.new) }
+        requires ready { Ready H.answer H.next H.keeps tables.now budget self.old (StatementFrame slot depth) store.old (H.state host.old) }
+        ensures { Turns H.answer H.next H.keeps tables.now budget self.old (StatementFrame slot depth) store.old (H.state host.old) self.new store.new (H.state host.new) }
     {
         match statement_at(tables, slot) {
             ReactiveStatement::Instruction(i) => {
@@ -118,8 +118,8 @@ impl Memory {
         requires normal { self.old.exit ≡ Normal }
         requires room { vec_len self.old.frames ≤ 1000 }
         requires here { nth tables.now.arena.statements.items slot ≡ Some (ScopeStatement block) }
-        requires ready { Ready answer next keeps tables.now budget self.old (StatementFrame slot depth) store.old (state host.old) }
-        ensures { Turns answer next keeps tables.now budget self.old (StatementFrame slot depth) store.old (state host.old) self.new store.new (state host.new) }
+        requires ready { Ready H.answer H.next H.keeps tables.now budget self.old (StatementFrame slot depth) store.old (H.state host.old) }
+        ensures { Turns H.answer H.next H.keeps tables.now budget self.old (StatementFrame slot depth) store.old (H.state host.old) self.new store.new (H.state host.new) }
     {
         match record_of(tables, block.scope) {
             None => {
@@ -151,8 +151,8 @@ impl Memory {
         recorded: Option<u32>,
     )
         requires normal { self.old.exit ≡ Normal }
-        requires ready { Ready answer next keeps tables.now budget self.old (LeavesFrame recorded) store.old (state host.old) }
-        ensures { Turns answer next keeps tables.now budget self.old (LeavesFrame recorded) store.old (state host.old) self.new store.new (state host.new) }
+        requires ready { Ready H.answer H.next H.keeps tables.now budget self.old (LeavesFrame recorded) store.old (H.state host.old) }
+        ensures { Turns H.answer H.next H.keeps tables.now budget self.old (LeavesFrame recorded) store.old (H.state host.old) self.new store.new (H.state host.new) }
     {
         match recorded {
             None => {}

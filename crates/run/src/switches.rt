@@ -29,8 +29,8 @@ impl Memory {
     )
         requires normal { self.old.exit ≡ Normal }
         requires room { vec_len self.old.frames ≤ 1000 }
-        requires ready { Ready answer next keeps tables.now budget self.old (SelectsFrame selection label depth) store.old (state host.old) }
-        ensures { Turns answer next keeps tables.now budget self.old (SelectsFrame selection label depth) store.old (state host.old) self.new store.new (state host.new) }
+        requires ready { Ready H.answer H.next H.keeps tables.now budget self.old (SelectsFrame selection label depth) store.old (H.state host.old) }
+        ensures { Turns H.answer H.next H.keeps tables.now budget self.old (SelectsFrame selection label depth) store.old (H.state host.old) self.new store.new (H.state host.new) }
     {
         if selection.rest.count == 0 {
             self.on_unselected(tables, host, store, budget, selection, label, depth)
@@ -52,8 +52,8 @@ impl Memory {
         requires normal { self.old.exit ≡ Normal }
         requires room { vec_len self.old.frames ≤ 1000 }
         requires none { selection.rest.count ≡ 0 }
-        requires ready { Ready answer next keeps tables.now budget self.old (SelectsFrame selection label depth) store.old (state host.old) }
-        ensures { Turns answer next keeps tables.now budget self.old (SelectsFrame selection label depth) store.old (state host.old) self.new store.new (state host.new) }
+        requires ready { Ready H.answer H.next H.keeps tables.now budget self.old (SelectsFrame selection label depth) store.old (H.state host.old) }
+        ensures { Turns H.answer H.next H.keeps tables.now budget self.old (SelectsFrame selection label depth) store.old (H.state host.old) self.new store.new (H.state host.new) }
     {
         match selection.default {
             Some(place) => {
@@ -90,8 +90,8 @@ impl Memory {
         requires normal { self.old.exit ≡ Normal }
         requires room { vec_len self.old.frames ≤ 1000 }
         requires some { 0 < selection.rest.count }
-        requires ready { Ready answer next keeps tables.now budget self.old (SelectsFrame selection label depth) store.old (state host.old) }
-        ensures { Turns answer next keeps tables.now budget self.old (SelectsFrame selection label depth) store.old (state host.old) self.new store.new (state host.new) }
+        requires ready { Ready H.answer H.next H.keeps tables.now budget self.old (SelectsFrame selection label depth) store.old (H.state host.old) }
+        ensures { Turns H.answer H.next H.keeps tables.now budget self.old (SelectsFrame selection label depth) store.old (H.state host.old) self.new store.new (H.state host.new) }
     {
         let case = case_at(tables, selection.rest.start);
         match case.test {
@@ -120,8 +120,8 @@ impl Memory {
         requires some { 0 < selection.rest.count }
         requires here { nth tables.now.arena.cases.items selection.rest.start ≡ Some case }
         requires is { case.test ≡ None }
-        requires ready { Ready answer next keeps tables.now budget self.old (SelectsFrame selection label depth) store.old (state host.old) }
-        ensures { Turns answer next keeps tables.now budget self.old (SelectsFrame selection label depth) store.old (state host.old) self.new store.new (state host.new) }
+        requires ready { Ready H.answer H.next H.keeps tables.now budget self.old (SelectsFrame selection label depth) store.old (H.state host.old) }
+        ensures { Turns H.answer H.next H.keeps tables.now budget self.old (SelectsFrame selection label depth) store.old (H.state host.old) self.new store.new (H.state host.new) }
     {
         let rest = Range {
             start: selection.rest.start + 1,
@@ -176,8 +176,8 @@ impl Memory {
         requires some { 0 < selection.rest.count }
         requires here { nth tables.now.arena.cases.items selection.rest.start ≡ Some case }
         requires is { case.test ≡ Some test }
-        requires ready { Ready answer next keeps tables.now budget self.old (SelectsFrame selection label depth) store.old (state host.old) }
-        ensures { Turns answer next keeps tables.now budget self.old (SelectsFrame selection label depth) store.old (state host.old) self.new store.new (state host.new) }
+        requires ready { Ready H.answer H.next H.keeps tables.now budget self.old (SelectsFrame selection label depth) store.old (H.state host.old) }
+        ensures { Turns H.answer H.next H.keeps tables.now budget self.old (SelectsFrame selection label depth) store.old (H.state host.old) self.new store.new (H.state host.new) }
     {
         let rest = Range {
             start: selection.rest.start + 1,
@@ -227,8 +227,8 @@ impl Memory {
     )
         requires normal { self.old.exit ≡ Normal }
         requires room { vec_len self.old.frames ≤ 1000 }
-        requires ready { Ready answer next keeps tables.now budget self.old (CasesFrame rest depth) store.old (state host.old) }
-        ensures { Turns answer next keeps tables.now budget self.old (CasesFrame rest depth) store.old (state host.old) self.new store.new (state host.new) }
+        requires ready { Ready H.answer H.next H.keeps tables.now budget self.old (CasesFrame rest depth) store.old (H.state host.old) }
+        ensures { Turns H.answer H.next H.keeps tables.now budget self.old (CasesFrame rest depth) store.old (H.state host.old) self.new store.new (H.state host.new) }
     {
         if rest.count == 0 {
             return;

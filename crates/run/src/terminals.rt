@@ -108,8 +108,8 @@ impl Memory {
         requires normal { self.old.exit ≡ Normal }
         requires room { vec_len self.old.frames ≤ 1000 }
         requires here { nth tables.now.arena.statements.items slot ≡ Some (TerminalStatement statement) }
-        requires ready { Ready answer next keeps tables.now budget self.old (StatementFrame slot depth) store.old (state host.old) }
-        ensures { Turns answer next keeps tables.now budget self.old (StatementFrame slot depth) store.old (state host.old) self.new store.new (state host.new) }
+        requires ready { Ready H.answer H.next H.keeps tables.now budget self.old (StatementFrame slot depth) store.old (H.state host.old) }
+        ensures { Turns H.answer H.next H.keeps tables.now budget self.old (StatementFrame slot depth) store.old (H.state host.old) self.new store.new (H.state host.new) }
     {
         let label = mark_of(statement.label);
         match statement.terminal {
@@ -307,8 +307,8 @@ impl Memory {
         requires normal { self.old.exit ≡ Normal }
         requires here { nth tables.now.arena.statements.items slot ≡ Some (TerminalStatement statement) }
         requires is { statement.terminal ≡ BreakTerminal target id kind }
-        requires ready { Ready answer next keeps tables.now budget self.old (StatementFrame slot depth) store.old (state host.old) }
-        ensures { Turns answer next keeps tables.now budget self.old (StatementFrame slot depth) store.old (state host.old) self.new store.new (state host.new) }
+        requires ready { Ready H.answer H.next H.keeps tables.now budget self.old (StatementFrame slot depth) store.old (H.state host.old) }
+        ensures { Turns H.answer H.next H.keeps tables.now budget self.old (StatementFrame slot depth) store.old (H.state host.old) self.new store.new (H.state host.new) }
     {
         match kind {
             ReactiveTerminalTargetKind::Implicit => {}
@@ -341,8 +341,8 @@ impl Memory {
         requires normal { self.old.exit ≡ Normal }
         requires here { nth tables.now.arena.statements.items slot ≡ Some (TerminalStatement statement) }
         requires is { statement.terminal ≡ ContinueTerminal target id kind }
-        requires ready { Ready answer next keeps tables.now budget self.old (StatementFrame slot depth) store.old (state host.old) }
-        ensures { Turns answer next keeps tables.now budget self.old (StatementFrame slot depth) store.old (state host.old) self.new store.new (state host.new) }
+        requires ready { Ready H.answer H.next H.keeps tables.now budget self.old (StatementFrame slot depth) store.old (H.state host.old) }
+        ensures { Turns H.answer H.next H.keeps tables.now budget self.old (StatementFrame slot depth) store.old (H.state host.old) self.new store.new (H.state host.new) }
     {
         match kind {
             ReactiveTerminalTargetKind::Implicit => {}
@@ -379,8 +379,8 @@ impl Memory {
         requires here { nth tables.now.arena.statements.items slot ≡ Some (TerminalStatement statement) }
         requires is { statement.terminal ≡ IfTerminal test consequent alternate id }
         requires marked { label ≡ mark statement.label }
-        requires ready { Ready answer next keeps tables.now budget self.old (StatementFrame slot depth) store.old (state host.old) }
-        ensures { Turns answer next keeps tables.now budget self.old (StatementFrame slot depth) store.old (state host.old) self.new store.new (state host.new) }
+        requires ready { Ready H.answer H.next H.keeps tables.now budget self.old (StatementFrame slot depth) store.old (H.state host.old) }
+        ensures { Turns H.answer H.next H.keeps tables.now budget self.old (StatementFrame slot depth) store.old (H.state host.old) self.new store.new (H.state host.new) }
     {
         let given = read(store, test.identifier);
         self.given = given;

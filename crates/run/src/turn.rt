@@ -19,8 +19,8 @@ impl Memory {
         frame: Frame,
     )
         requires normal { self.old.exit ≡ Normal }
-        requires ready { Ready answer next keeps tables.now budget self.old frame store.old (state host.old) }
-        ensures { Turns answer next keeps tables.now budget self.old frame store.old (state host.old) self.new store.new (state host.new) }
+        requires ready { Ready H.answer H.next H.keeps tables.now budget self.old frame store.old (H.state host.old) }
+        ensures { Turns H.answer H.next H.keeps tables.now budget self.old frame store.old (H.state host.old) self.new store.new (H.state host.new) }
     {
         match frame {
             Frame::Block { rest, depth } => self.on_block(tables, host, store, budget, rest, depth),
@@ -80,8 +80,8 @@ impl Memory {
         budget: u32,
         frame: Frame,
     )
-        requires { Ready answer next keeps tables.now budget self.old frame store.old (state host.old) }
-        ensures { Turns answer next keeps tables.now budget self.old frame store.old (state host.old) self.new store.new (state host.new) }
+        requires { Ready H.answer H.next H.keeps tables.now budget self.old frame store.old (H.state host.old) }
+        ensures { Turns H.answer H.next H.keeps tables.now budget self.old frame store.old (H.state host.old) self.new store.new (H.state host.new) }
     {
         match self.exit {
             Exit::Normal => self.on_normal(tables, host, store, budget, frame),

@@ -41,8 +41,8 @@ impl Memory {
     )
         requires normal { self.old.exit ≡ Normal }
         requires here { nth tables.now.arena.inner.values.items slot ≡ Some (InstructionCase operation) }
-        requires ready { Ready answer next keeps tables.now budget self.old (ValueFrame slot depth) store.old (state host.old) }
-        ensures { Turns answer next keeps tables.now budget self.old (ValueFrame slot depth) store.old (state host.old) self.new store.new (state host.new) }
+        requires ready { Ready H.answer H.next H.keeps tables.now budget self.old (ValueFrame slot depth) store.old (H.state host.old) }
+        ensures { Turns H.answer H.next H.keeps tables.now budget self.old (ValueFrame slot depth) store.old (H.state host.old) self.new store.new (H.state host.new) }
     {
         let given = self.given;
         let did = operate(tables, host, store, &mut self.values, operation, given);
@@ -61,8 +61,8 @@ impl Memory {
     )
         requires normal { self.old.exit ≡ Normal }
         requires room { vec_len self.old.frames ≤ 1000 }
-        requires ready { Ready answer next keeps tables.now budget self.old (ValueFrame slot depth) store.old (state host.old) }
-        ensures { Turns answer next keeps tables.now budget self.old (ValueFrame slot depth) store.old (state host.old) self.new store.new (state host.new) }
+        requires ready { Ready H.answer H.next H.keeps tables.now budget self.old (ValueFrame slot depth) store.old (H.state host.old) }
+        ensures { Turns H.answer H.next H.keeps tables.now budget self.old (ValueFrame slot depth) store.old (H.state host.old) self.new store.new (H.state host.new) }
     {
         match value_at(tables, slot) {
             ReactiveValue::Instruction(operation) => self.on_operation(
@@ -85,8 +85,8 @@ impl Memory {
         requires normal { self.old.exit ≡ Normal }
         requires room { vec_len self.old.frames ≤ 1000 }
         requires compound { (i : InstructionValue) → nth tables.now.arena.inner.values.items slot ≡ Some (InstructionCase i) → ⊥ }
-        requires ready { Ready answer next keeps tables.now budget self.old (ValueFrame slot depth) store.old (state host.old) }
-        ensures { Turns answer next keeps tables.now budget self.old (ValueFrame slot depth) store.old (state host.old) self.new store.new (state host.new) }
+        requires ready { Ready H.answer H.next H.keeps tables.now budget self.old (ValueFrame slot depth) store.old (H.state host.old) }
+        ensures { Turns H.answer H.next H.keeps tables.now budget self.old (ValueFrame slot depth) store.old (H.state host.old) self.new store.new (H.state host.new) }
     {
         match value_at(tables, slot) {
             ReactiveValue::Instruction(_) => {}

@@ -1,4 +1,6 @@
 // Runs a function file: `run_screen [--number] FILE BUDGET [VALUE ...]`, with the answers of a list host on standard input.
+#![tactic(auto)]
+
 mod running;
 
 use crate::running::{answer, usage};

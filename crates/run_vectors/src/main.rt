@@ -1,5 +1,7 @@
 // Replays runs. A line `function WORDS` names a function file; a line `list BUDGET | STORE | ANSWERS | RESULT` or
 // `number BUDGET | STORE | | RESULT` is a run of the function above it. Lines that begin otherwise are passed over.
+#![tactic(auto)]
+
 use fault::RunFault;
 use hir::tables::Tables;
 use host::{ListHost, NumberHost};

@@ -1,6 +1,6 @@
 -- Where a reader of numbers stands: the values so far, and what the rest of the words says, are what all of them say.
 -- One lemma for the start, each way through a turn, and the end.
-use Rattle.std.proofs.Common.{◌≡◌, ℕ, ◌+◌, ◌<◌, ◌≤◌, List, [], ◌∷◌, ◌++◌, length, get_or, drop, Some, None, Option, sym, refl, ap, ◌∙◌, append_assoc, append_nil, add-one, drop-cons}
+use Rattle.std.proofs.Common.{◌≡◌, ℕ, ◌+◌, ◌<◌, ◌≤◌, List, [], ◌∷◌, ◌++◌, length, get_or, drop, Some, None, Option, sym, refl, ap, ◌∙◌, append_assoc, append-nil, add-one, drop-cons}
 use Rattle.std.proofs.lemmas.List.{drop_all}
 use Rattle.screen.specs.Number.{number_of}
 use Rattle.screen.specs.Arguments.{onto, numbers_of}
@@ -38,4 +38,4 @@ pub counted_refused : (words : List (List ℕ)) (vs : List ℕ) (i : ℕ) → i 
 counted_refused words vs i h e w = here words vs i None h e w
 
 pub counted_all : (words : List (List ℕ)) (vs : List ℕ) (i : ℕ) → length words ≤ i → Counted words vs i → numbers_of words ≡ Some vs
-counted_all words vs i h w = w.same ∙ ap (λ (l : List (List ℕ)). after vs (numbers_of l)) (drop_all i words h) ∙ ap Some (append_nil vs)
+counted_all words vs i h w = w.same ∙ ap (λ (l : List (List ℕ)). after vs (numbers_of l)) (drop_all i words h) ∙ ap Some (append-nil vs)

@@ -1,4 +1,6 @@
 // What the program `run_screen` is asked, and what it says.
+#![tactic(auto)]
+
 pub mod arguments;
 pub mod laws;
 pub mod number;

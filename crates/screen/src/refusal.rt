@@ -3,9 +3,10 @@ ghost use Rattle.std.specs.Prelude.{◌≡◌, ◌++◌, string_bytes, OnOk};
 ghost use Rattle.screen.specs.Refusal.{file_lines, check_lines, load_lines, short_store_lines, large_budget_lines, usage};
 
 use format::fault::{CheckFault, FileFault, LoadFault};
+use std::alloc::AllocError;
 use std::fmt;
 
-fn add_file_fault(out: &mut String, fault: FileFault) -> fmt::Result
+fn add_file_fault(out: &mut String, fault: FileFault) -> Result<(), AllocError>
     ensures { OnOk result (string_bytes out.new ≡ string_bytes out.old ++ file_lines fault) }
 {
     match fault {
@@ -26,7 +27,7 @@ fn add_file_fault(out: &mut String, fault: FileFault) -> fmt::Result
 }
 
 // A fault in a table has the place of statement 0.
-fn add_check_fault(out: &mut String, fault: CheckFault) -> fmt::Result
+fn add_check_fault(out: &mut String, fault: CheckFault) -> Result<(), AllocError>
     ensures { OnOk result (string_bytes out.new ≡ string_bytes out.old ++ check_lines fault) }
 {
     match fault {
@@ -53,8 +54,14 @@ pub fn add_load_fault(out: &mut String, fault: LoadFault) -> fmt::Result
     ensures { OnOk result (string_bytes out.new ≡ string_bytes out.old ++ load_lines fault) }
 {
     match fault {
-        LoadFault::File(file) => add_file_fault(out, file),
-        LoadFault::Check(check) => add_check_fault(out, check),
+        LoadFault::File(file) => {
+            add_file_fault(out, file)?;
+            Ok(())
+        }
+        LoadFault::Check(check) => {
+            add_check_fault(out, check)?;
+            Ok(())
+        }
     }
 }
 
@@ -64,18 +71,21 @@ pub fn add_short_store(out: &mut String) -> fmt::Result
     writeln!(
         out,
         "refused 12\nthe store is shorter than the identifier table"
-    )
+    )?;
+    Ok(())
 }
 
 pub fn add_large_budget(out: &mut String) -> fmt::Result
     ensures { OnOk result (string_bytes out.new ≡ string_bytes out.old ++ large_budget_lines) }
 {
-    writeln!(out, "refused 13\nthe budget is above 1000000000")
+    writeln!(out, "refused 13\nthe budget is above 1000000000")?;
+    Ok(())
 }
 
 // What wrong arguments get.
 pub fn add_usage(out: &mut String) -> fmt::Result
     ensures { OnOk result (string_bytes out.new ≡ string_bytes out.old ++ usage) }
 {
-    writeln!(out, "usage: run_screen [--number] FILE BUDGET [VALUE ...]")
+    writeln!(out, "usage: run_screen [--number] FILE BUDGET [VALUE ...]")?;
+    Ok(())
 }

@@ -3,10 +3,11 @@ ghost use Rattle.std.specs.Prelude.{◌≡◌, ◌++◌, string_bytes, OnOk};
 ghost use Rattle.screen.specs.Said.{outcome_line, record_line, store_line, lines};
 
 use semantics::{Outcome, Ran};
+use std::alloc::AllocError;
 use std::fmt;
 use text::line::add_line;
 
-fn add_outcome(out: &mut String, outcome: Outcome) -> fmt::Result
+fn add_outcome(out: &mut String, outcome: Outcome) -> Result<(), AllocError>
     ensures { OnOk result (string_bytes out.new ≡ string_bytes out.old ++ outcome_line outcome) }
 {
     match outcome {
@@ -17,7 +18,7 @@ fn add_outcome(out: &mut String, outcome: Outcome) -> fmt::Result
     }
 }
 
-fn add_record(out: &mut String, recorded: bool) -> fmt::Result
+fn add_record(out: &mut String, recorded: bool) -> Result<(), AllocError>
     ensures { OnOk result (string_bytes out.new ≡ string_bytes out.old ++ record_line recorded) }
 {
     if recorded {
@@ -32,7 +33,8 @@ fn add_store(out: &mut String, store: &[u32]) -> fmt::Result
     ensures { OnOk result (string_bytes out.new ≡ string_bytes out.old ++ store_line store.now) }
 {
     if store.len() == 0 {
-        return writeln!(out, "store");
+        writeln!(out, "store")?;
+        return Ok(());
     }
     write!(out, "store ")?;
     add_line(out, store)
@@ -48,5 +50,6 @@ pub fn add_run(out: &mut String, ran: Ran, store: &[u32], unused: usize) -> fmt:
     writeln!(out, "entries {entries}")?;
     add_record(out, ran.recorded)?;
     add_store(out, store)?;
-    writeln!(out, "unused {unused}")
+    writeln!(out, "unused {unused}")?;
+    Ok(())
 }

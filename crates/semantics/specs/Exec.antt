@@ -1,10 +1,8 @@
 -- The run of a function, by recursion over its tree, for any host. Assumes nothing.
 use Rattle.std.specs.Prelude.{ℕ, zero, suc, Bool, true, false, List, [], ◌∷◌, Some, None, Option, ◌==◌, nat_lt}
-use Rattle.hir.specs.declared.place.Place.{Place}
 use Rattle.hir.specs.declared.value.LogicalOperator.{LogicalOperator}
 use Rattle.hir.specs.declared.value.LogicalOperator.TheVariants.{Or, And, Coalesce}
 use Rattle.hir.specs.declared.environment.ReactiveScopeEarlyReturn.{ReactiveScopeEarlyReturn}
-use Rattle.hir.specs.declared.terminal.ReactiveTerminalTargetKind.{ReactiveTerminalTargetKind}
 use Rattle.hir.specs.declared.terminal.ReactiveTerminalTargetKind.TheVariants.{Implicit, Labeled, Unlabeled}
 use Rattle.hir.specs.Tree.{Op, Val, operation, logical, conditional, sequence, optional, OptVal, no_val, some_val, Instr, instr, Instrs, inil, icons, Stmt, instruction, scope, pruned, terminal, Term, break, continue, return, throw, switch, do_while, while, for, for_of, for_in, if, label, try, Cases, knil, kcons, OptBlock, no_block, some_block, Block, nil, cons, ScopeInfo, Function}
 use Rattle.semantics.specs.Machine.{Meaning, State, Out, normal, broke, continued, returned, threw, Result, done, spent, gave, at, all_at, last_at, store_all, assign, bind, handle, map_out, enter, leave, branch, ask, test, ask_each, tick, iter}

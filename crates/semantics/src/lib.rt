@@ -1,4 +1,6 @@
 // What a run of a function answers. Its definition stands in specs/.
+#![tactic(auto)]
+
 pub mod examples;
 pub mod laws;
 

@@ -1,4 +1,6 @@
 // Reads a function file from standard input, and prints its sections, a line each, or the number of its refusal.
+#![tactic(auto)]
+
 mod showing;
 
 use crate::showing::show;

@@ -1,4 +1,6 @@
 // What it means that a change keeps what a function does, and that such changes compose.
+#![tactic(auto)]
+
 ghost use Rattle.simulation.specs.Faithful.{IdentityFaithful, CompositionFaithful};
 
 // The change that leaves every function as it is is faithful, for hosts with states of any type S.

@@ -1,6 +1,6 @@
 -- A loop that adds each element's piece to a list: what is done, and the pieces of the rest, are all the pieces.
 -- F is the pieces one after another, p is an element's piece.
-use Rattle.std.proofs.Common.{◌≡◌, ℕ, ◌+◌, ◌<◌, ◌≤◌, List, [], ◌∷◌, ◌++◌, length, get_or, drop, sym, refl, ap, ◌∙◌, append_assoc, append_nil, add-one, drop-cons}
+use Rattle.std.proofs.Common.{◌≡◌, ℕ, ◌+◌, ◌<◌, ◌≤◌, List, [], ◌∷◌, ◌++◌, length, get_or, drop, sym, ap, ◌∙◌, append_assoc, append-nil, add-one, drop-cons}
 use Rattle.std.proofs.lemmas.List.{drop_all}
 
 -- one more element
@@ -13,4 +13,4 @@ pieces_more F p step xs done more whole i h e w =
 
 -- after the last
 pub pieces_all : (F : List ℕ → List ℕ) → F [] ≡ [] → (xs done whole : List ℕ) (i : ℕ) → length xs ≤ i → done ++ F (drop i xs) ≡ whole → done ≡ whole
-pieces_all F none xs done whole i h w = sym (append_nil done) ∙ ap (λ (l : List ℕ). done ++ l) (sym (ap F (drop_all i xs h) ∙ none)) ∙ w
+pieces_all F none xs done whole i h w = sym (append-nil done) ∙ ap (λ (l : List ℕ). done ++ l) (sym (ap F (drop_all i xs h) ∙ none)) ∙ w

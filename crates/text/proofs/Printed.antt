@@ -1,20 +1,18 @@
 -- What is printed is read again: a line of words says those words, whatever comes after it.
 -- Positions only matter to a fault, so each step says that there is one to go on from.
-use Rattle.std.proofs.Common.{◌≡◌, ℕ, ◌+◌, ◌-◌, ◌*◌, ◌/◌, ◌%◌, ◌^◌, ◌<◌, ◌≤◌, true, false, cond, leb, List, [], ◌∷◌, ◌++◌, Ok, Err, decimal, Result, sym, refl, ap, ◌∙◌, append_assoc, arith}
+use Rattle.std.proofs.Common.{◌≡◌, ℕ, ◌+◌, ◌-◌, ◌*◌, ◌/◌, ◌%◌, ◌<◌, ◌≤◌, true, false, cond, leb, List, [], ◌∷◌, ◌++◌, Ok, Err, decimal, Result, sym, refl, ap, ◌∙◌, append_assoc, arith}
 use Rattle.std.specs.Char.{is_ascii_digit, is_ascii_whitespace}
 use Rattle.std.specs.List.{AllByRecursion as All}
 use Rattle.std.proofs.lemmas.Fmt.{decimal_by_steps}
 use Rattle.std.proofs.lemmas.Bool.Decides.{nat_tests}
-use Rattle.text.specs.declared.character.Kind.{Kind}
 use Rattle.text.specs.declared.character.Kind.TheVariants.{Digit, White, Other}
 use Rattle.text.specs.declared.character.Position.{Position}
 use Rattle.text.specs.declared.character.State.{State}
 use Rattle.text.specs.declared.character.State.TheVariants.{Between, Word}
-use Rattle.text.specs.declared.character.Step.{Step}
 use Rattle.text.specs.declared.character.Step.TheVariants.{On, Ended, Refused}
 use Rattle.text.specs.declared.character.TextFault.TheVariants.{TooLarge}
 use Rattle.text.specs.declared.character.TextFault.{TextFault}
-use Rattle.text.specs.Line.{spaced, between_spaces, line}
+use Rattle.text.specs.Line.{spaced, line}
 use Rattle.text.specs.Said.{kind_of, next_of, longer_of, step_of, onto, said_from}
 use Rattle.text.proofs.Saying.{said_at}
 

@@ -1,11 +1,11 @@
 -- Where a reader stands in a text, and what each character does to that.
 -- The words so far, and what is said from here on, are what the text says.
-use Rattle.std.proofs.Common.{◌≡◌, ℕ, suc, ◌+◌, ◌<◌, ◌≤◌, List, [], ◌∷◌, ◌++◌, length, get_or, drop, Ok, Err, Result, sym, refl, ap, ◌∙◌, append_assoc, add-one, arith, drop-cons}
+use Rattle.std.proofs.Common.{◌≡◌, ℕ, ◌+◌, ◌<◌, ◌≤◌, List, [], ◌∷◌, ◌++◌, length, get_or, drop, Ok, Err, Result, sym, refl, ap, ◌∙◌, append_assoc, add-one, arith, drop-cons}
 use Rattle.std.proofs.lemmas.List.{drop_all}
 use Rattle.std.proofs.lemmas.Bool.Decides.{nat_tests}
 use Rattle.text.specs.declared.character.Position.{Position}
 use Rattle.text.specs.declared.character.State.{State}
-use Rattle.text.specs.declared.character.State.TheVariants.{Between, Word}
+use Rattle.text.specs.declared.character.State.TheVariants.{Between}
 use Rattle.text.specs.declared.character.Step.{Step}
 use Rattle.text.specs.declared.character.Step.TheVariants.{On, Ended, Refused}
 use Rattle.text.specs.declared.character.TextFault.{TextFault}

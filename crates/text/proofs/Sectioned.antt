@@ -1,6 +1,6 @@
 -- The sections that the pairs of a file name, one after another behind the pairs, are the file's words.
 -- So the lines that show a file say its words again.
-use Rattle.std.proofs.Common.{◌≡◌, ℕ, ◌+◌, ◌*◌, ◌<◌, List, [], ◌∷◌, ◌++◌, length, get_or, take, drop, Ok, sym, ap, ◌∙◌, append_nil, arith, length-drop, take-append-drop, take_all, drop-drop}
+use Rattle.std.proofs.Common.{◌≡◌, ℕ, ◌+◌, ◌*◌, ◌<◌, List, [], ◌∷◌, ◌++◌, length, get_or, take, drop, Ok, sym, ap, ◌∙◌, append-nil, arith, length-drop, take-append-drop, take_all, drop-drop}
 use Rattle.std.specs.List.{AllByRecursion as All}
 use Rattle.std.proofs.ByRecursion.{All-take, All-drop}
 use Rattle.hir.specs.Tree.{Function}
@@ -75,7 +75,7 @@ then_lines ws vs more at h next =
 last_line : (ws : List ℕ) (at : Position) → Small ws → said_from Between at (line ws) ≡ Ok ws
 last_line ws at h =
     let p = line_passes ws h at [] in
-    ap (said_from Between at) (sym (append_nil (line ws))) ∙ p.same ∙ ap Ok (append_nil ws)
+    ap (said_from Between at) (sym (append-nil (line ws))) ∙ p.same ∙ ap Ok (append-nil ws)
 
 lines_say : (ws : List ℕ) → Small ws → said (five_lines ws) ≡ Ok (parts ws)
 lines_say ws h =

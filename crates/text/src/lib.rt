@@ -1,4 +1,6 @@
 // Words as text in decimal, read and written, and as bytes.
+#![tactic(auto)]
+
 pub mod again;
 pub mod bytes;
 pub mod character;

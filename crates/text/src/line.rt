@@ -32,5 +32,6 @@ pub fn add_line(out: &mut String, words: &[u32]) -> fmt::Result
     ensures { OnOk result (string_bytes out.new ≡ string_bytes out.old ++ line_of words.now) }
 {
     add_words(out, words)?;
-    writeln!(out)
+    writeln!(out)?;
+    Ok(())
 }

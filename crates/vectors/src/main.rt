@@ -1,4 +1,6 @@
 // Replays files with what a load must answer: `words | ok`, or `words | number layer place`, a line each.
+#![tactic(auto)]
+
 ghost use Rattle.std.specs.Prelude.{◌≡◌, false};
 
 use format::fault::{Layer, LoadFault};

@@ -1,5 +1,5 @@
 -- The words of a list's items, as a loop writes them one by one. Assumes nothing.
-use Rattle.std.proofs.Common.{◌≡◌, ℕ, ◌+◌, ◌<◌, ◌≤◌, List, [], ◌∷◌, ◌++◌, length, get_or, take, drop, sym, refl, ap, ◌∙◌, subst, append_assoc, append_nil, take-append-drop}
+use Rattle.std.proofs.Common.{◌≡◌, ℕ, ◌+◌, ◌<◌, ◌≤◌, List, [], ◌∷◌, ◌++◌, length, get_or, take, drop, sym, refl, ap, ◌∙◌, subst, append_assoc, append-nil, take-append-drop}
 use Rattle.std.proofs.lemmas.List.{drop_more, take_more, take_all}
 use Rattle.hir.specs.Encode.{items_words}
 use Rattle.write.specs.Puts.{Room, Wrote}
@@ -20,7 +20,7 @@ module _ {X : Type 0} (words : X → List ℕ) (xs : List X) (i : ℕ) (d : X) (
 
   pub items_more : items_words words (take i xs) ++ words (get_or xs i d) ≡ items_words words (take (i + 1) xs)
   items_more =
-      ap (λ l. items_words words (take i xs) ++ l) (sym (append_nil (words (get_or xs i d))))
+      ap (λ l. items_words words (take i xs) ++ l) (sym (append-nil (words (get_or xs i d))))
       ∙ sym (items_append words (take i xs) (get_or xs i d ∷ []))
       ∙ ap (items_words words) (sym (take_more xs i d h))
 

@@ -1,5 +1,5 @@
 -- The declarations in a scope's list, as a loop comes by them one by one. Assumes nothing.
-use Rattle.std.proofs.Common.{◌≡◌, ℕ, ◌+◌, ◌<◌, Bool, true, false, cond, eqb, ◌≢◌, List, [], ◌∷◌, ◌++◌, length, get_or, take, drop, sym, refl, ap, ◌∙◌, append_nil, take-append-drop, eq-eqb, ne_eqb}
+use Rattle.std.proofs.Common.{◌≡◌, ℕ, ◌+◌, ◌<◌, Bool, true, false, cond, eqb, ◌≢◌, List, [], ◌∷◌, ◌++◌, length, get_or, take, drop, sym, refl, ap, ◌∙◌, append-nil, take-append-drop, eq-eqb, ne_eqb}
 use Rattle.std.proofs.lemmas.List.{take_more, drop_more}
 use Rattle.hir.specs.declared.environment.Declared.{Declared}
 use Rattle.hir.specs.declared.environment.ReactiveScopeDeclaration.{ReactiveScopeDeclaration}
@@ -35,7 +35,7 @@ module _ (x : ℕ) (ds : List Declared) (i : ℕ) (d : Declared) (h : i < length
 
   pub owned_skip : (get_or ds i d).owner ≢ x → owned x (take (i + 1) ds) ≡ owned x (take i ds)
   owned_skip ne =
-      owned_next ∙ ap (λ b. owned x (take i ds) ++ cond b ((get_or ds i d).declaration ∷ []) []) (ne_eqb (get_or ds i d).owner x ne) ∙ append_nil (owned x (take i ds))
+      owned_next ∙ ap (λ b. owned x (take i ds) ++ cond b ((get_or ds i d).declaration ∷ []) []) (ne_eqb (get_or ds i d).owner x ne) ∙ append-nil (owned x (take i ds))
 
   -- one turn, at a declaration in the list: there is room for it, and then it stands after those before it
   pub owned_room : {o p : List ℕ} {at r : ℕ} → (get_or ds i d).owner ≡ x → Wrote o p at (items_words declaration_words (owned x (take i ds))) r

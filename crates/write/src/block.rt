@@ -13,6 +13,7 @@ use crate::terminal::{put_jump, put_label, put_leave};
 use crate::value::{put_instruction, put_opt_top, put_top};
 use crate::word::put_word;
 use hir::arena::Arena;
+use hir::depth::deepest;
 use hir::place::Place;
 use hir::range::Range;
 use hir::statement::ReactiveStatement;
@@ -430,5 +431,5 @@ pub fn put_body(arena: &Arena, root: ReactiveBlock, out: &mut [u8], at: usize) -
     requires { Writable block_words (root_of (slots arena.now) root) out.old at }
     ensures { Written block_words (root_of (slots arena.now) root) out.old out.new at result }
 {
-    put_block(arena, root, 64, out, at)
+    put_block(arena, root, deepest(), out, at)
 }

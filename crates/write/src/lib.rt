@@ -1,4 +1,6 @@
 // Writes the function that tables hold as a file.
+#![tactic(auto)]
+
 mod block;
 mod environment;
 pub mod file;

@@ -9,6 +9,7 @@ ghost use Rattle.write.specs.Puts.{Writable, Written};
 use crate::number::{flag_number, operator_number};
 use crate::place::{put_opt_place, put_places};
 use crate::word::put_word;
+use hir::depth::deepest;
 use hir::range::Range;
 use hir::value::{InstructionValue, LogicalOperator, ReactiveInstruction, ReactiveValue};
 use hir::value_arena::ValueArena;
@@ -186,7 +187,7 @@ pub fn put_top(arena: &ValueArena, slot: u32, out: &mut [u8], at: usize) -> usiz
     requires { Writable val_words (top_value (value_slots arena.now) slot) out.old at }
     ensures { Written val_words (top_value (value_slots arena.now) slot) out.old out.new at result }
 {
-    put_value(arena, slot, 64, out, at)
+    put_value(arena, slot, deepest(), out, at)
 }
 
 pub fn put_opt_top(arena: &ValueArena, slot: Option<u32>, out: &mut [u8], at: usize) -> usize
@@ -212,5 +213,5 @@ pub fn put_instruction(
     requires { Writable instr_words (instr_of (top_value (value_slots arena.now)) instruction) out.old at }
     ensures { Written instr_words (instr_of (top_value (value_slots arena.now)) instruction) out.old out.new at result }
 {
-    put_instr(arena, instruction, 64, out, at)
+    put_instr(arena, instruction, deepest(), out, at)
 }

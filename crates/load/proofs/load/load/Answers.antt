@@ -8,10 +8,10 @@ use Rattle.load.proofs.Lies.{words_length}
 use Rattle.load.proofs.Whole.{exactly}
 use Rattle.load.proofs.load.load.Goals as goal
 
-pub invariant-of-tables : goal.invariant-of-tables
-invariant-of-tables c =
+pub invariant_of-tables : goal.invariant_of-tables
+invariant_of-tables c =
     let h = c.in-Ok.ensures in
-    (h.file.rooted, (omega (arith, h.near, words_length c.args.bytes.now, as_long (words c.args.bytes.now) _ h.file.parsed), (exactly _ _ h.file.counted, (within_true _ limits h.file.within, tt))))
+    record { rooted = h.file.rooted; measured = omega (arith, h.near, words_length c.args.bytes.now, as_long (words c.args.bytes.now) _ h.file.parsed); counted = exactly _ _ h.file.counted; limited = within_true _ limits h.file.within }
 
 pub returns-in-Ok : goal.returns-in-Ok
 returns-in-Ok c =
@@ -19,14 +19,14 @@ returns-in-Ok c =
     record { answer = record { parsed = h.parsed; sound = h.sound; counted = h.file.counted }; draft = refl }
 
 -- after a refusal
-pub invariant-of-tables-in-Err : goal.invariant-of-tables-in-Err
-invariant-of-tables-in-Err c =
-    let h = c.clear-parts-in-Err.ensures in
-    let e = held_empty c.clear-parts-in-Err.new.environment c.clear-parts-in-Err.new.arena h.counters h.none.identifiers h.none.scopes in
-    (empty_rooted c.clear-parts-in-Err.new.arena, (empty_measured _ e, (empty_counted _ e, (empty_limited, tt))))
+pub invariant_of-tables-in-Err : goal.invariant_of-tables-in-Err
+invariant_of-tables-in-Err c =
+    let h = c.clear_parts-in-Err.ensures in
+    let e = held_empty c.clear_parts-in-Err.new.environment c.clear_parts-in-Err.new.arena h.counters h.none.identifiers h.none.scopes in
+    record { rooted = empty_rooted c.clear_parts-in-Err.new.arena; measured = empty_measured _ e; counted = empty_counted _ e; limited = empty_limited }
 
 pub returns-in-Err : goal.returns-in-Err
 returns-in-Err c =
-    let h = c.clear-parts-in-Err.ensures in
-    let e = held_empty c.clear-parts-in-Err.new.environment c.clear-parts-in-Err.new.arena h.counters h.none.identifiers h.none.scopes in
+    let h = c.clear_parts-in-Err.ensures in
+    let e = held_empty c.clear_parts-in-Err.new.environment c.clear_parts-in-Err.new.arena h.counters h.none.identifiers h.none.scopes in
     record { answer = (c.in-Err.ensures, record { function = e; used = refl }); draft = refl }

@@ -15,4 +15,4 @@ returns-then-bytes-gt65536 c = Whole.long c.args.bytes.now c.if-bytes-ne0.false 
 pub returns : goal.returns
 returns c =
     let same = Whole.whole c.args.bytes.now c.if-bytes-ne0.false c.if-bytes-lt48.false c.if-bytes-gt65536.false in
-    MatchResult-weaker c.read-words.result c.read-words.ensures (λ _ m. (m, same ∙ m.parsed, c.if-bytes-gt65536.false)) (λ _ m. same ∙ m)
+    MatchResult-weaker c.read_words.result c.read_words.ensures (λ _ m. (m, same ∙ m.parsed, c.if-bytes-gt65536.false)) (λ _ m. same ∙ m)

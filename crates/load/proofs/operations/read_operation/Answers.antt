@@ -5,38 +5,38 @@ use Rattle.load.proofs.Later.{below_later, payload_later}
 use Rattle.load.proofs.ValueSteps.{room_later, room_after, op_in}
 use Rattle.load.proofs.operations.read_operation.Goals as goal
 
-pub returns-in-err-kind : goal.returns-in-err-kind
+pub returns-in_err-kind : goal.returns-in_err-kind
 unfolding op
-returns-in-err-kind c = search rules
+returns-in_err-kind c = search rules
 
-pub returns-in-err-payload : goal.returns-in-err-payload
+pub returns-in_err-payload : goal.returns-in_err-payload
 unfolding op
-returns-in-err-payload c = search rules
+returns-in_err-payload c = search rules
 
-pub read-places-requires : goal.read-places-requires
-read-places-requires c =
-    room_later (room_later c.requires (below_later 42 (cursor c.args.reader.now) _ c.in-ok-kind.ensures))
-    (payload_later _ (cursor c.below.new.self) _ c.in-ok-payload.ensures)
+pub read_places-requires : goal.read_places-requires
+read_places-requires c =
+    room_later (room_later c.requires (below_later 42 (cursor c.args.reader.now) _ c.in_ok-kind.ensures))
+    (payload_later _ (cursor c.below.new.self) _ c.in_ok-payload.ensures)
 
-pub returns-in-err-written : goal.returns-in-err-written
+pub returns-in_err-written : goal.returns-in_err-written
 unfolding op
-returns-in-err-written c = search rules
+returns-in_err-written c = search rules
 
-pub read-places-requires-2 : goal.read-places-requires-2
-read-places-requires-2 c =
+pub read_places-requires-2 : goal.read_places-requires-2
+read_places-requires-2 c =
     room_after
-    (room_later (room_later c.requires (below_later 42 (cursor c.args.reader.now) _ c.in-ok-kind.ensures))
-    (payload_later _ (cursor c.below.new.self) _ c.in-ok-payload.ensures))
-    c.in-ok-written.ensures.step
+    (room_later (room_later c.requires (below_later 42 (cursor c.args.reader.now) _ c.in_ok-kind.ensures))
+    (payload_later _ (cursor c.below.new.self) _ c.in_ok-payload.ensures))
+    c.in_ok-written.ensures.step
 
-pub returns-in-err-operands : goal.returns-in-err-operands
+pub returns-in_err-operands : goal.returns-in_err-operands
 unfolding op
-returns-in-err-operands c = search rules
+returns-in_err-operands c = search rules
 
-pub returns-in-err-span : goal.returns-in-err-span
+pub returns-in_err-span : goal.returns-in_err-span
 unfolding op
-returns-in-err-span c = search rules
+returns-in_err-span c = search rules
 
 pub returns : goal.returns
 returns c =
-    op_in c.in-ok-kind.ensures c.in-ok-payload.ensures c.in-ok-written.ensures c.in-ok-operands.ensures c.in-ok-span.ensures
+    op_in c.in_ok-kind.ensures c.in_ok-payload.ensures c.in_ok-written.ensures c.in_ok-operands.ensures c.in_ok-span.ensures

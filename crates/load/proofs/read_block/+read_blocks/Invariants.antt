@@ -4,59 +4,59 @@ use Rattle.load.specs.Reads.{cursor}
 use Rattle.load.proofs.read_block.+read_blocks.Given as goal
 
 -- a block is one less deep than the one around it; between two blocks there are at most eight calls
-abbrev pub decreases-read-block : goal.decreases-read-block
-decreases-read-block l = l.depth * 16 + 0
+abbrev pub decreases-read_block : goal.decreases-read_block
+decreases-read_block l = l.depth * 16 + 0
 
-abbrev pub decreases-read-case : goal.decreases-read-case
-decreases-read-case l = l.depth * 16 + 2
+abbrev pub decreases-read_case : goal.decreases-read_case
+decreases-read_case l = l.depth * 16 + 2
 
-abbrev pub decreases-read-cases : goal.decreases-read-cases
-decreases-read-cases l = l.depth * 16 + 3
+abbrev pub decreases-read_cases : goal.decreases-read_cases
+decreases-read_cases l = l.depth * 16 + 3
 
-abbrev pub decreases-read-do-while : goal.decreases-read-do-while
-decreases-read-do-while l = l.depth * 16 + 2
+abbrev pub decreases-read_do_while : goal.decreases-read_do_while
+decreases-read_do_while l = l.depth * 16 + 2
 
-abbrev pub decreases-read-for : goal.decreases-read-for
-decreases-read-for l = l.depth * 16 + 2
+abbrev pub decreases-read_for : goal.decreases-read_for
+decreases-read_for l = l.depth * 16 + 2
 
-abbrev pub decreases-read-for-in : goal.decreases-read-for-in
-decreases-read-for-in l = l.depth * 16 + 2
+abbrev pub decreases-read_for_in : goal.decreases-read_for_in
+decreases-read_for_in l = l.depth * 16 + 2
 
-abbrev pub decreases-read-for-of : goal.decreases-read-for-of
-decreases-read-for-of l = l.depth * 16 + 2
+abbrev pub decreases-read_for_of : goal.decreases-read_for_of
+decreases-read_for_of l = l.depth * 16 + 2
 
-abbrev pub decreases-read-if : goal.decreases-read-if
-decreases-read-if l = l.depth * 16 + 2
+abbrev pub decreases-read_if : goal.decreases-read_if
+decreases-read_if l = l.depth * 16 + 2
 
-abbrev pub decreases-read-label : goal.decreases-read-label
-decreases-read-label l = l.depth * 16 + 2
+abbrev pub decreases-read_label : goal.decreases-read_label
+decreases-read_label l = l.depth * 16 + 2
 
-abbrev pub decreases-read-optional-block : goal.decreases-read-optional-block
-decreases-read-optional-block l = l.depth * 16 + 1
+abbrev pub decreases-read_optional_block : goal.decreases-read_optional_block
+decreases-read_optional_block l = l.depth * 16 + 1
 
-abbrev pub decreases-read-statement : goal.decreases-read-statement
-decreases-read-statement l = l.depth * 16 + 7
+abbrev pub decreases-read_statement : goal.decreases-read_statement
+decreases-read_statement l = l.depth * 16 + 7
 
-abbrev pub decreases-read-statements : goal.decreases-read-statements
-decreases-read-statements l = l.depth * 16 + 8
+abbrev pub decreases-read_statements : goal.decreases-read_statements
+decreases-read_statements l = l.depth * 16 + 8
 
-abbrev pub decreases-read-switch : goal.decreases-read-switch
-decreases-read-switch l = l.depth * 16 + 4
+abbrev pub decreases-read_switch : goal.decreases-read_switch
+decreases-read_switch l = l.depth * 16 + 4
 
-abbrev pub decreases-read-term : goal.decreases-read-term
-decreases-read-term l = l.depth * 16 + 5
+abbrev pub decreases-read_term : goal.decreases-read_term
+decreases-read_term l = l.depth * 16 + 5
 
-abbrev pub decreases-read-terminal : goal.decreases-read-terminal
-decreases-read-terminal l = l.depth * 16 + 6
+abbrev pub decreases-read_terminal : goal.decreases-read_terminal
+decreases-read_terminal l = l.depth * 16 + 6
 
-abbrev pub decreases-read-try : goal.decreases-read-try
-decreases-read-try l = l.depth * 16 + 2
+abbrev pub decreases-read_try : goal.decreases-read_try
+decreases-read_try l = l.depth * 16 + 2
 
-abbrev pub decreases-read-while : goal.decreases-read-while
-decreases-read-while l = l.depth * 16 + 2
+abbrev pub decreases-read_while : goal.decreases-read_while
+decreases-read_while l = l.depth * 16 + 2
 
-abbrev pub invariant-read-statements-loop-i : goal.invariant-read-statements-loop-i
-invariant-read-statements-loop-i l = StmtsIn l.depth l.i l.initial.arena l.arena (cursor l.initial.reader) (cursor l.reader)
+abbrev pub invariant-read_statements-loop-i : goal.invariant-read_statements-loop-i
+invariant-read_statements-loop-i l = StmtsIn l.depth l.i l.initial.arena l.arena (cursor l.initial.reader) (cursor l.reader)
 
-abbrev pub invariant-read-cases-loop-i : goal.invariant-read-cases-loop-i
-invariant-read-cases-loop-i l = CasesIn l.depth l.i l.initial.arena l.arena (cursor l.initial.reader) (cursor l.reader)
+abbrev pub invariant-read_cases-loop-i : goal.invariant-read_cases-loop-i
+invariant-read_cases-loop-i l = CasesIn l.depth l.i l.initial.arena l.arena (cursor l.initial.reader) (cursor l.reader)

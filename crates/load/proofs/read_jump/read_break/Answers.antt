@@ -3,4 +3,4 @@ use Rattle.hir.specs.Tree.{break}
 use Rattle.load.proofs.read_jump.read_break.Goals as goal
 
 pub returns : goal.returns
-returns c = record { tree = break c.in-ok-target.target c.in-ok-id.id c.in-ok-target-kind.target-kind; parsed = rw (c.in-ok-target.ensures, c.in-ok-id.ensures, c.in-ok-target-kind.ensures) refl; stands = λ s val inside. refl }
+returns c = record { tree = break c.in_ok-target.target c.in_ok-id.id c.in_ok-target_kind.target_kind; parsed = rw (c.in_ok-target.ensures, c.in_ok-id.ensures, c.in_ok-target_kind.ensures) refl; stands = λ s val inside. refl }

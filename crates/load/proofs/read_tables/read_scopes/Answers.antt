@@ -10,12 +10,12 @@ pub items-init : goal.items-init
 items-init c = scopes_first (cursor c.args.reader.now) c.requires.room c.requires.owners
 
 pub items-smaller : goal.items-smaller
-items-smaller c = omega (arith, scope_shorter (cursor c.items.reader) _ c.in-ok-read-scope.ensures.parsed)
+items-smaller c = omega (arith, scope_shorter (cursor c.items.reader) _ c.in_ok-read_scope.ensures.parsed)
 
 pub items-preserved : goal.items-preserved
-items-preserved c = scopes_next c.items.invariant (sym c.ended.ensures ∙ c.items-test.true) c.in-ok-read-scope.ensures
+items-preserved c = scopes_next c.items.invariant (sym c.ended.ensures ∙ c.items-test.true) c.in_ok-read_scope.ensures
 
-pub returns-in-err-read-scope : goal.returns-in-err-read-scope
-returns-in-err-read-scope c =
-    let p = err_from_is_err_and c.from-residual.result c.from-residual.ensures.1 in
-    rw (p.1, p.2) (mid_stop scope_info c.items.invariant.mid (sym c.ended.ensures ∙ c.items-test.true) c.in-err-read-scope.ensures)
+pub returns-in_err-read_scope : goal.returns-in_err-read_scope
+returns-in_err-read_scope c =
+    let p = err_from_is_err_and c.from_residual.result c.from_residual.ensures.1 in
+    rw (p.1, p.2) (mid_stop scope_info c.items.invariant.mid (sym c.ended.ensures ∙ c.items-test.true) c.in_err-read_scope.ensures)

@@ -7,4 +7,4 @@ use Rattle.load.proofs.read_top.read_top_instruction.Goals as goal
 
 pub returns : goal.returns
 unfolding top_slot top_parser
-returns c = MatchResult-weaker c.read-instruction.result c.read-instruction.ensures (λ _ m. lifted refl refl refl refl refl m) (λ _ e. e)
+returns c = MatchResult-weaker c.read_instruction.result c.read_instruction.ensures (λ _ m. lifted refl refl refl refl refl m) (λ _ e. e)

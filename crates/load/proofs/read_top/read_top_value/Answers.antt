@@ -7,4 +7,4 @@ use Rattle.load.proofs.read_top.read_top_value.Goals as goal
 
 pub returns : goal.returns
 unfolding top_slot top_parser
-returns c = MatchResult-weaker c.read-value.result c.read-value.ensures (λ _ m. lifted refl refl refl refl refl m) (λ _ e. e)
+returns c = MatchResult-weaker c.read_value.result c.read_value.ensures (λ _ m. lifted refl refl refl refl refl m) (λ _ e. e)

@@ -4,29 +4,29 @@ use Rattle.load.specs.Values.{InstrsIn}
 use Rattle.load.proofs.read_value.+read_values.Given as goal
 
 -- a value is one less deep than the one around it; between two values there are at most four calls
-abbrev pub decreases-read-value : goal.decreases-read-value
-decreases-read-value l = l.depth * 8
+abbrev pub decreases-read_value : goal.decreases-read_value
+decreases-read_value l = l.depth * 8
 
-abbrev pub decreases-read-instruction : goal.decreases-read-instruction
-decreases-read-instruction l = l.depth * 8 + 1
+abbrev pub decreases-read_instruction : goal.decreases-read_instruction
+decreases-read_instruction l = l.depth * 8 + 1
 
-abbrev pub decreases-read-instructions : goal.decreases-read-instructions
-decreases-read-instructions l = l.depth * 8 + 2
+abbrev pub decreases-read_instructions : goal.decreases-read_instructions
+decreases-read_instructions l = l.depth * 8 + 2
 
-abbrev pub decreases-read-logical : goal.decreases-read-logical
-decreases-read-logical l = l.depth * 8 + 1
+abbrev pub decreases-read_logical : goal.decreases-read_logical
+decreases-read_logical l = l.depth * 8 + 1
 
-abbrev pub decreases-read-conditional : goal.decreases-read-conditional
-decreases-read-conditional l = l.depth * 8 + 1
+abbrev pub decreases-read_conditional : goal.decreases-read_conditional
+decreases-read_conditional l = l.depth * 8 + 1
 
-abbrev pub decreases-read-optional : goal.decreases-read-optional
-decreases-read-optional l = l.depth * 8 + 1
+abbrev pub decreases-read_optional : goal.decreases-read_optional
+decreases-read_optional l = l.depth * 8 + 1
 
-abbrev pub decreases-read-sequence : goal.decreases-read-sequence
-decreases-read-sequence l = l.depth * 8 + 3
+abbrev pub decreases-read_sequence : goal.decreases-read_sequence
+decreases-read_sequence l = l.depth * 8 + 3
 
-abbrev pub decreases-read-case : goal.decreases-read-case
-decreases-read-case l = l.depth * 8 + 4
+abbrev pub decreases-read_case : goal.decreases-read_case
+decreases-read_case l = l.depth * 8 + 4
 
-abbrev pub invariant-read-instructions-loop-i : goal.invariant-read-instructions-loop-i
-invariant-read-instructions-loop-i l = InstrsIn l.depth l.i l.initial.arena l.arena (cursor l.initial.reader) (cursor l.reader)
+abbrev pub invariant-read_instructions-loop-i : goal.invariant-read_instructions-loop-i
+invariant-read_instructions-loop-i l = InstrsIn l.depth l.i l.initial.arena l.arena (cursor l.initial.reader) (cursor l.reader)

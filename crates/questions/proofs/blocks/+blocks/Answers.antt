@@ -47,8 +47,8 @@ cases-loop-i-preserved t c = R.row_again (λ (k : ReactiveSwitchCase). opt_block
 pub statement-index-requires : goal.statement-index-requires
 statement-index-requires t c = omega (arith, c.args.arena.now.statements.ok.0, S.stmt_within (slots c.args.arena.now) (block_of c.args.depth (slots c.args.arena.now)) c.args.slot c.requires.decodes.what c.requires.decodes.is)
 
-pub statement-top-instruction-requires : goal.statement-top-instruction-requires
-statement-top-instruction-requires t c =
+pub statement-top_instruction-requires : goal.statement-top_instruction-requires
+statement-top_instruction-requires t c =
     let p = S.instr_slot (slots c.args.arena.now) (block_of c.args.depth (slots c.args.arena.now)) c.args.slot c.requires.decodes.what c.requires.decodes.is _ c.in-Instruction.top c.index.ensures c.in-Instruction.is in
     record { what = p.0; is = p.1 }
 
@@ -72,7 +72,7 @@ statement-returns-in-Instruction t c =
     record {
       by = λ s e.
           let p = S.instr_slot (slots c.args.arena.now) (block_of c.args.depth (slots c.args.arena.now)) c.args.slot s e _ c.in-Instruction.top c.index.ensures c.in-Instruction.is in
-          ap (λ z. passed (stmt_lines c.args.bounds z (around_of c.args.around.now)) (notes c.args.found c.args.seen.now)) (sym p.2) ∙ c.top-instruction.ensures.by p.0 p.1 c.args.seen.now;
+          ap (λ z. passed (stmt_lines c.args.bounds z (around_of c.args.around.now)) (notes c.args.found c.args.seen.now)) (sym p.2) ∙ c.top_instruction.ensures.by p.0 p.1 c.args.seen.now;
     }
 
 pub statement-returns-in-Terminal : goal.statement-returns-in-Terminal
@@ -89,8 +89,8 @@ statement-returns-in-Scope t c =
       by = λ s e.
           let p = S.scope_slot (slots c.args.arena.now) (block_of c.args.depth (slots c.args.arena.now)) c.args.slot s e _ c.in-Scope.shown c.index.ensures c.in-Scope.is in
           ap (λ z. passed (stmt_lines c.args.bounds z (around_of c.args.around.now)) (notes c.args.found c.args.seen.now)) (sym p.2)
-          ∙ S.scope_pass c.args.bounds c.in-Scope.shown.scope p.0 (around_of c.args.around.now) c.args.found c.note-noted.result c.args.seen.now c.claim-fresh.new.seen c.scope-line-line.result c.claim-fresh.result
-          c.scope-line-line.ensures c.claim-fresh.ensures.fresh c.claim-fresh.ensures.marks c.note-noted.ensures (c.block.ensures.by p.0 p.1);
+          ∙ S.scope_pass c.args.bounds c.in-Scope.shown.scope p.0 (around_of c.args.around.now) c.args.found c.note-noted.result c.args.seen.now c.claim-fresh.new.seen c.scope_line-line.result c.claim-fresh.result
+          c.scope_line-line.ensures c.claim-fresh.ensures.fresh c.claim-fresh.ensures.marks c.note-noted.ensures (c.block.ensures.by p.0 p.1);
     }
 
 pub statement-returns-in-PrunedScope : goal.statement-returns-in-PrunedScope
@@ -99,19 +99,19 @@ statement-returns-in-PrunedScope t c =
       by = λ s e.
           let p = S.pruned_slot (slots c.args.arena.now) (block_of c.args.depth (slots c.args.arena.now)) c.args.slot s e _ c.in-PrunedScope.shown c.index.ensures c.in-PrunedScope.is in
           ap (λ z. passed (stmt_lines c.args.bounds z (around_of c.args.around.now)) (notes c.args.found c.args.seen.now)) (sym p.2)
-          ∙ S.pruned_pass c.args.bounds c.in-PrunedScope.shown.scope p.0 (around_of c.args.around.now) c.args.found c.note-noted-in-PrunedScope.result c.args.seen.now c.scope-line-line-in-PrunedScope.result
-          c.scope-line-line-in-PrunedScope.ensures c.note-noted-in-PrunedScope.ensures (c.block-in-PrunedScope.ensures.by p.0 p.1);
+          ∙ S.pruned_pass c.args.bounds c.in-PrunedScope.shown.scope p.0 (around_of c.args.around.now) c.args.found c.note-noted-in-PrunedScope.result c.args.seen.now c.scope_line-line-in-PrunedScope.result
+          c.scope_line-line-in-PrunedScope.ensures c.note-noted-in-PrunedScope.ensures (c.block-in-PrunedScope.ensures.by p.0 p.1);
     }
 
-pub terminal-values-own-own-requires : goal.terminal-values-own-own-requires
-terminal-values-own-own-requires t c = (S.term_view (slots c.args.arena.now) (block_of c.args.depth (slots c.args.arena.now)) c.args.shown.terminal c.view-parts.result c.requires.decodes.what c.view-parts.ensures c.requires.decodes.is).values
+pub terminal-values_own-own-requires : goal.terminal-values_own-own-requires
+terminal-values_own-own-requires t c = (S.term_view (slots c.args.arena.now) (block_of c.args.depth (slots c.args.arena.now)) c.args.shown.terminal c.view-parts.result c.requires.decodes.what c.view-parts.ensures c.requires.decodes.is).values
 
 pub terminal-optional-led-requires : goal.terminal-optional-led-requires
 terminal-optional-led-requires t c =
     (omega arith, ((S.term_view (slots c.args.arena.now) (block_of c.args.depth (slots c.args.arena.now)) c.args.shown.terminal c.view-parts.result c.requires.decodes.what c.view-parts.ensures c.requires.decodes.is).leading, record { labels = omega (arith, c.requires.room.labels, c.inside-inner.ensures.labels); loops = omega (arith, c.requires.room.loops, c.inside-inner.ensures.loops) }))
 
-pub terminal-values-inside-valued-requires : goal.terminal-values-inside-valued-requires
-terminal-values-inside-valued-requires t c = (S.term_view (slots c.args.arena.now) (block_of c.args.depth (slots c.args.arena.now)) c.args.shown.terminal c.view-parts.result c.requires.decodes.what c.view-parts.ensures c.requires.decodes.is).values
+pub terminal-values_inside-valued-requires : goal.terminal-values_inside-valued-requires
+terminal-values_inside-valued-requires t c = (S.term_view (slots c.args.arena.now) (block_of c.args.depth (slots c.args.arena.now)) c.args.shown.terminal c.view-parts.result c.requires.decodes.what c.view-parts.ensures c.requires.decodes.is).values
 
 pub terminal-optional-entered-requires : goal.terminal-optional-entered-requires
 terminal-optional-entered-requires t c =
@@ -129,8 +129,8 @@ pub terminal-returns : goal.terminal-returns
 terminal-returns t c =
     record {
       by = λ x e.
-          S.term_pass (slots c.args.arena.now) (block_of c.args.depth (slots c.args.arena.now)) c.view-parts.result x c.args.bounds c.args.shown.label (around_of c.args.around.now) (around_of c.inside-inner.result) c.values-own-own.result c.terminal-line-line.result c.args.found
+          S.term_pass (slots c.args.arena.now) (block_of c.args.depth (slots c.args.arena.now)) c.view-parts.result x c.args.bounds c.args.shown.label (around_of c.args.around.now) (around_of c.inside-inner.result) c.values_own-own.result c.terminal_line-line.result c.args.found
           (S.term_view (slots c.args.arena.now) (block_of c.args.depth (slots c.args.arena.now)) c.args.shown.terminal c.view-parts.result x c.view-parts.ensures e)
-          c.values-own-own.ensures c.terminal-line-line.ensures c.note-noted.ensures c.inside-inner.ensures.around
-          c.optional-led.ensures c.values-inside-valued.ensures c.optional-entered.ensures c.optional-handled.ensures c.cases.ensures;
+          c.values_own-own.ensures c.terminal_line-line.ensures c.note-noted.ensures c.inside-inner.ensures.around
+          c.optional-led.ensures c.values_inside-valued.ensures c.optional-entered.ensures c.optional-handled.ensures c.cases.ensures;
     }

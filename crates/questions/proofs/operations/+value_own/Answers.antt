@@ -1,4 +1,4 @@
-use Rattle.std.proofs.Common.{◌-◌, ◌++◌, ap, ◌∙◌, ap₂, arith}
+use Rattle.std.proofs.Common.{◌++◌, ap, ◌∙◌, ap₂, arith}
 use Rattle.hir.specs.Held.{value_slots}
 use Rattle.questions.specs.Questions.{val_ops}
 use Rattle.questions.specs.Own.{own_of, both_own}
@@ -14,38 +14,38 @@ operation-requires t c =
     let p = V.operation_parts c.args.depth (value_slots c.args.arena.now) c.args.slot c.requires.what _ c.requires.is c.index.ensures c.in-Instruction.value c.in-Instruction.is in
     record { what = p.0; is = p.1 }
 
-pub value-own-requires : goal.value-own-requires
-value-own-requires t c =
+pub value_own-requires : goal.value_own-requires
+value_own-requires t c =
     let p = V.logical_parts c.args.depth (value_slots c.args.arena.now) c.args.slot c.requires.what _ c.requires.is c.index.ensures c.in-LogicalExpression.operator c.in-LogicalExpression.left c.in-LogicalExpression.right c.in-LogicalExpression.is in
     (omega (arith, p.0), record { what = p.1; is = p.3 })
 
-pub value-own-requires-in-LogicalExpression : goal.value-own-requires-in-LogicalExpression
-value-own-requires-in-LogicalExpression t c =
+pub value_own-requires-in-LogicalExpression : goal.value_own-requires-in-LogicalExpression
+value_own-requires-in-LogicalExpression t c =
     let p = V.logical_parts c.args.depth (value_slots c.args.arena.now) c.args.slot c.requires.what _ c.requires.is c.index.ensures c.in-LogicalExpression.operator c.in-LogicalExpression.left c.in-LogicalExpression.right c.in-LogicalExpression.is in
     (omega (arith, p.0), record { what = p.2; is = p.4 })
 
-pub value-own-requires-in-ConditionalExpression : goal.value-own-requires-in-ConditionalExpression
-value-own-requires-in-ConditionalExpression t c =
+pub value_own-requires-in-ConditionalExpression : goal.value_own-requires-in-ConditionalExpression
+value_own-requires-in-ConditionalExpression t c =
     let p = V.conditional_parts c.args.depth (value_slots c.args.arena.now) c.args.slot c.requires.what _ c.requires.is c.index.ensures c.in-ConditionalExpression.test c.in-ConditionalExpression.consequent c.in-ConditionalExpression.alternate c.in-ConditionalExpression.is in
     (omega (arith, p.0), record { what = p.1; is = p.4 })
 
-pub value-own-requires-in-ConditionalExpression-2 : goal.value-own-requires-in-ConditionalExpression-2
-value-own-requires-in-ConditionalExpression-2 t c =
+pub value_own-requires-in-ConditionalExpression-2 : goal.value_own-requires-in-ConditionalExpression-2
+value_own-requires-in-ConditionalExpression-2 t c =
     let p = V.conditional_parts c.args.depth (value_slots c.args.arena.now) c.args.slot c.requires.what _ c.requires.is c.index.ensures c.in-ConditionalExpression.test c.in-ConditionalExpression.consequent c.in-ConditionalExpression.alternate c.in-ConditionalExpression.is in
     (omega (arith, p.0), record { what = p.2; is = p.5 })
 
-pub value-own-requires-in-ConditionalExpression-3 : goal.value-own-requires-in-ConditionalExpression-3
-value-own-requires-in-ConditionalExpression-3 t c =
+pub value_own-requires-in-ConditionalExpression-3 : goal.value_own-requires-in-ConditionalExpression-3
+value_own-requires-in-ConditionalExpression-3 t c =
     let p = V.conditional_parts c.args.depth (value_slots c.args.arena.now) c.args.slot c.requires.what _ c.requires.is c.index.ensures c.in-ConditionalExpression.test c.in-ConditionalExpression.consequent c.in-ConditionalExpression.alternate c.in-ConditionalExpression.is in
     (omega (arith, p.0), record { what = p.3; is = p.6 })
 
-pub value-own-requires-in-SequenceExpression : goal.value-own-requires-in-SequenceExpression
-value-own-requires-in-SequenceExpression t c =
+pub value_own-requires-in-SequenceExpression : goal.value_own-requires-in-SequenceExpression
+value_own-requires-in-SequenceExpression t c =
     let p = V.sequence_parts c.args.depth (value_slots c.args.arena.now) c.args.slot c.requires.what _ c.requires.is c.index.ensures c.in-SequenceExpression.instructions c.in-SequenceExpression.id c.in-SequenceExpression.value c.in-SequenceExpression.is in
     (omega (arith, p.0), record { what = p.2; is = p.4 })
 
-pub value-own-requires-in-OptionalExpression : goal.value-own-requires-in-OptionalExpression
-value-own-requires-in-OptionalExpression t c =
+pub value_own-requires-in-OptionalExpression : goal.value_own-requires-in-OptionalExpression
+value_own-requires-in-OptionalExpression t c =
     let p = V.optional_parts c.args.depth (value_slots c.args.arena.now) c.args.slot c.requires.what _ c.requires.is c.index.ensures c.in-OptionalExpression.value c.in-OptionalExpression.optional c.in-OptionalExpression.is in
     (omega (arith, p.0), record { what = p.1; is = p.2 })
 
@@ -62,7 +62,7 @@ returns-in-LogicalExpression t c =
     record {
       of = λ v e.
           let p = V.logical_parts c.args.depth (value_slots c.args.arena.now) c.args.slot v _ e c.index.ensures c.in-LogicalExpression.operator c.in-LogicalExpression.left c.in-LogicalExpression.right c.in-LogicalExpression.is in
-          c.both.ensures ∙ ap₂ both_own (c.value-own.ensures.of p.1 p.3) (c.value-own-in-LogicalExpression.ensures.of p.2 p.4)
+          c.both.ensures ∙ ap₂ both_own (c.value_own.ensures.of p.1 p.3) (c.value_own-in-LogicalExpression.ensures.of p.2 p.4)
           ∙ V.own_append c.args.bounds (val_ops p.1) (val_ops p.2) ∙ ap (λ x. own_of c.args.bounds (val_ops x)) p.5;
     }
 
@@ -71,8 +71,8 @@ returns-in-ConditionalExpression t c =
     record {
       of = λ v e.
           let p = V.conditional_parts c.args.depth (value_slots c.args.arena.now) c.args.slot v _ e c.index.ensures c.in-ConditionalExpression.test c.in-ConditionalExpression.consequent c.in-ConditionalExpression.alternate c.in-ConditionalExpression.is in
-          let q = c.both-in-ConditionalExpression.ensures ∙ ap₂ both_own (c.value-own-in-ConditionalExpression-2.ensures.of p.2 p.5) (c.value-own-in-ConditionalExpression-3.ensures.of p.3 p.6) ∙ V.own_append c.args.bounds (val_ops p.2) (val_ops p.3) in
-          c.both-in-ConditionalExpression-2.ensures ∙ ap₂ both_own (c.value-own-in-ConditionalExpression.ensures.of p.1 p.4) q
+          let q = c.both-in-ConditionalExpression.ensures ∙ ap₂ both_own (c.value_own-in-ConditionalExpression-2.ensures.of p.2 p.5) (c.value_own-in-ConditionalExpression-3.ensures.of p.3 p.6) ∙ V.own_append c.args.bounds (val_ops p.2) (val_ops p.3) in
+          c.both-in-ConditionalExpression-2.ensures ∙ ap₂ both_own (c.value_own-in-ConditionalExpression.ensures.of p.1 p.4) q
           ∙ V.own_append c.args.bounds (val_ops p.1) (val_ops p.2 ++ val_ops p.3) ∙ ap (λ x. own_of c.args.bounds (val_ops x)) p.7;
     }
 
@@ -81,7 +81,7 @@ returns-in-SequenceExpression t c =
     record {
       of = λ v e.
           let p = V.sequence_parts c.args.depth (value_slots c.args.arena.now) c.args.slot v _ e c.index.ensures c.in-SequenceExpression.instructions c.in-SequenceExpression.id c.in-SequenceExpression.value c.in-SequenceExpression.is in
-          c.value-own-in-SequenceExpression.ensures.of p.2 p.4 ∙ ap (λ x. own_of c.args.bounds (val_ops x)) p.5;
+          c.value_own-in-SequenceExpression.ensures.of p.2 p.4 ∙ ap (λ x. own_of c.args.bounds (val_ops x)) p.5;
     }
 
 pub returns-in-OptionalExpression : goal.returns-in-OptionalExpression
@@ -89,5 +89,5 @@ returns-in-OptionalExpression t c =
     record {
       of = λ v e.
           let p = V.optional_parts c.args.depth (value_slots c.args.arena.now) c.args.slot v _ e c.index.ensures c.in-OptionalExpression.value c.in-OptionalExpression.optional c.in-OptionalExpression.is in
-          c.value-own-in-OptionalExpression.ensures.of p.1 p.2 ∙ ap (λ x. own_of c.args.bounds (val_ops x)) p.3;
+          c.value_own-in-OptionalExpression.ensures.of p.1 p.2 ∙ ap (λ x. own_of c.args.bounds (val_ops x)) p.3;
     }

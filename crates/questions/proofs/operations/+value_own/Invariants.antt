@@ -1,4 +1,4 @@
 use Rattle.questions.proofs.operations.+value_own.Given as goal
 
-abbrev pub decreases-value-own : goal.decreases-value-own
-decreases-value-own l = l.depth
+abbrev pub decreases-value_own : goal.decreases-value_own
+decreases-value_own l = l.depth

@@ -11,7 +11,7 @@ returns c =
     record {
       of = λ o e.
           op_own c.args.bounds (value_slots c.args.arena.now) c.args.value o _ _ _ _ (op_rows (value_slots c.args.arena.now) c.args.value o e)
-          (c.places-well.ensures ∙ ap (λ xs. every (place_in c.args.bounds) (take (w.start + w.count - w.start) (drop w.start xs))) c.as-slice-places.ensures.value)
-          (c.places-well-2.ensures ∙ ap (λ xs. every (place_in c.args.bounds) (take (r.start + r.count - r.start) (drop r.start xs))) c.as-slice-places.ensures.value)
+          (c.places_well.ensures ∙ ap (λ xs. every (place_in c.args.bounds) (take (w.start + w.count - w.start) (drop w.start xs))) c.as_slice-places.ensures.value)
+          (c.places_well-2.ensures ∙ ap (λ xs. every (place_in c.args.bounds) (take (r.start + r.count - r.start) (drop r.start xs))) c.as_slice-places.ensures.value)
           c.writes.ensures c.reads.ensures;
     }

@@ -12,7 +12,7 @@ returns c =
           let t = opt_val_ops d.test.what in
           let u = opt_val_ops d.update.what in
           c.both-2.ensures
-          ∙ ap₂ both_own (c.inside-own-init.ensures.of d.init.what d.init.is)
-          (c.both.ensures ∙ ap₂ both_own (c.inside-own-test.ensures.of d.test.what d.test.is) (c.inside-own-update.ensures.of d.update.what d.update.is) ∙ own_append c.args.bounds t u)
+          ∙ ap₂ both_own (c.inside_own-init.ensures.of d.init.what d.init.is)
+          (c.both.ensures ∙ ap₂ both_own (c.inside_own-test.ensures.of d.test.what d.test.is) (c.inside_own-update.ensures.of d.update.what d.update.is) ∙ own_append c.args.bounds t u)
           ∙ own_append c.args.bounds i (t ++ u);
     }

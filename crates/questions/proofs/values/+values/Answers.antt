@@ -1,4 +1,4 @@
-use Rattle.std.proofs.Common.{◌-◌, true, [], ◌++◌, sym, ap, ◌∙◌, arith}
+use Rattle.std.proofs.Common.{true, [], ◌++◌, sym, ap, ◌∙◌, arith}
 use Rattle.hir.specs.Held.{value_slots}
 use Rattle.hir.specs.Decode.{instr_of, instrs_of, value_of}
 use Rattle.questions.specs.Questions.{val_lines, instr_lines, instrs_lines}
@@ -10,8 +10,8 @@ use Rattle.questions.proofs.values.+values.Goals as goal
 
 pub instruction-returns : goal.instruction-returns
 instruction-returns t c =
-    P.instr_pass c.args.bounds (value_of c.args.depth (value_slots c.args.arena.now)) c.args.instruction c.args.found c.note-noted.result c.value.result c.value-own-own.result
-    c.value-own-own.ensures (c.note-noted.ensures ∙ ap (λ l. noted c.args.found l true) c.line.ensures) c.value.ensures
+    P.instr_pass c.args.bounds (value_of c.args.depth (value_slots c.args.arena.now)) c.args.instruction c.args.found c.note-noted.result c.value.result c.value_own-own.result
+    c.value_own-own.ensures (c.note-noted.ensures ∙ ap (λ l. noted c.args.found l true) c.line.ensures) c.value.ensures
 
 pub value-index-requires : goal.value-index-requires
 value-index-requires t c =

@@ -1,4 +1,4 @@
-use Rattle.std.proofs.Common.{◌≡◌, ℕ, ◌+◌, List, vec_items, sym, ap, ◌∙◌}
+use Rattle.std.proofs.Common.{ℕ, ◌+◌, List, vec_items, sym, ap, ◌∙◌}
 use Rattle.hir.specs.declared.place.Place.{Place}
 use Rattle.run.specs.Operands.{between, lastly}
 use Rattle.run.proofs.Between.{between_first, between_none}
@@ -9,7 +9,7 @@ loop-at-preserved c =
     let ps = vec_items c.args.tables.now.arena.inner.places in
     let σ = c.args.store.now in
     c.loop-at.invariant
-    ∙ ap (λ (l : List Place). lastly σ c.loop-at.value l) (between_first ps c.loop-at.at c.args.to c.place-at.result c.loop-at-test.true c.place-at.ensures)
+    ∙ ap (λ (l : List Place). lastly σ c.loop-at.value l) (between_first ps c.loop-at.at c.args.to c.place_at.result c.loop-at-test.true c.place_at.ensures)
     ∙ ap (λ (v : ℕ). lastly σ v (between ps (c.loop-at.at + 1) c.args.to)) (sym c.read-value.ensures)
 
 pub returns : goal.returns

@@ -1,4 +1,4 @@
-use Rattle.std.proofs.Common.{◌≡◌, ◌⊎◌, sym, ap, ⊎_elim}
+use Rattle.std.proofs.Common.{sym, ap, ⊎_elim}
 use Rattle.semantics.specs.Exec.{class}
 use Rattle.run.proofs.Operating.{other_class}
 use Rattle.run.proofs.operations.class_of.Goals as goal

@@ -1,4 +1,4 @@
-use Rattle.std.proofs.Common.{◌≡◌, ◌<◌, ◌≤◌, length, refl, arith}
+use Rattle.std.proofs.Common.{refl, arith}
 use Rattle.hir.specs.Held.{held}
 use Rattle.hir.specs.Tables.{function_of}
 use Rattle.semantics.specs.Exec.{exec}
@@ -12,11 +12,11 @@ returns-then-store-len g c =
     let n = c.args.tables.now.environment.identifiers.ok.0 in
     short (function_of c.args.tables.now) c.args.budget _ _ _ _ _ _ _ _ (omega arith) refl refl refl refl
 
-pub returns-then-budget-gt-LARGEST-BUDGET : goal.returns-then-budget-gt-LARGEST-BUDGET
+pub returns-then-budget-gt-LARGEST_BUDGET : goal.returns-then-budget-gt-LARGEST_BUDGET
 unfolding held
-returns-then-budget-gt-LARGEST-BUDGET g c =
+returns-then-budget-gt-LARGEST_BUDGET g c =
     let n = c.args.tables.now.environment.identifiers.ok.0 in
-    large (function_of c.args.tables.now) c.args.budget _ _ _ _ _ _ _ _ (omega arith) c.if-budget-gt-LARGEST-BUDGET.true refl refl refl refl
+    large (function_of c.args.tables.now) c.args.budget _ _ _ _ _ _ _ _ (omega arith) c.if-budget-gt-LARGEST_BUDGET.true refl refl refl refl
 
 pub go-requires : goal.go-requires
 go-requires g c =
@@ -32,4 +32,4 @@ returns g c =
     let l = c.go.ensures.leads (exec M (function_of T) c.args.budget (g.H.Host.state c.args.host.now) c.args.store.now)
     (starts M c.args.budget T (g.H.Host.state c.args.host.now) c.args.store.now b.frames b.exit b.given b.steps b.entries b.recorded) in
     let n = c.args.tables.now.environment.identifiers.ok.0 in
-    finished (function_of T) c.args.budget _ _ _ _ _ _ _ _ (omega arith) c.if-budget-gt-LARGEST-BUDGET.false _ _ _ _ _ _ c.outcome-of.ensures (ends c.go.ensures.empty l) refl
+    finished (function_of T) c.args.budget _ _ _ _ _ _ _ _ (omega arith) c.if-budget-gt-LARGEST_BUDGET.false _ _ _ _ _ _ c.outcome_of.ensures (ends c.go.ensures.empty l) refl

@@ -1,5 +1,4 @@
-use Rattle.std.proofs.Common.{◌≡◌, Option, sym, refl, ap, ◌∙◌, arith}
-use Rattle.hir.specs.declared.environment.ReactiveScopeEarlyReturn.{ReactiveScopeEarlyReturn}
+use Rattle.std.proofs.Common.{sym, ap, ◌∙◌, arith}
 use Rattle.semantics.specs.Exec.{recorded_place}
 use Rattle.run.proofs.Records.{record_there, record_beyond}
 use Rattle.run.proofs.statements.record_of.Goals as goal

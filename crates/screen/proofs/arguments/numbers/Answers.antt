@@ -15,16 +15,16 @@ returns-in-None c =
     let xs = c.args.words.now in
     let within : c.loop-word.word-index < length (map string_bytes xs) = rw length-map c.loop-word-test.true in
     counted_refused (map string_bytes xs) _ c.loop-word.word-index within
-    (c.in-None.ensures ∙ ap number_of (c.as-bytes.ensures.value ∙ word_at string_bytes xs c.loop-word.word-index c.word-item.result c.loop-word-test.true c.word-item.is))
+    (c.in-None.ensures ∙ ap number_of (c.as_bytes.ensures.value ∙ word_at string_bytes xs c.loop-word.word-index c.word-item.result c.loop-word-test.true c.word-item.is))
     c.loop-word.invariant
 
 pub loop-word-preserved : goal.loop-word-preserved
 loop-word-preserved c =
     let xs = c.args.words.now in
     let within : c.loop-word.word-index < length (map string_bytes xs) = rw length-map c.loop-word-test.true in
-    rw (has_pushed _ _ c.push.result c.if-is-err.ensures.value c.push.ensures.items)
+    rw (has_pushed _ _ c.push.result c.if-is_err.ensures.value c.push.ensures.items)
     (counted_more (map string_bytes xs) _ c.loop-word.word-index c.in-Some.value within
-    (c.in-Some.ensures ∙ ap number_of (c.as-bytes.ensures.value ∙ word_at string_bytes xs c.loop-word.word-index c.word-item.result c.loop-word-test.true c.word-item.is))
+    (c.in-Some.ensures ∙ ap number_of (c.as_bytes.ensures.value ∙ word_at string_bytes xs c.loop-word.word-index c.word-item.result c.loop-word-test.true c.word-item.is))
     c.loop-word.invariant)
 
 pub returns : goal.returns

@@ -1,7 +1,5 @@
 -- With the flag, and without.
 use Rattle.std.proofs.Common.{string_bytes, codes, ap, ◌∙◌}
-use Rattle.std.proofs.lemmas.Slice.Eq.{bytes_eq-Decides}
-use Rattle.std.proofs.lemmas.Bool.Decides.{same_from_decides}
 use Rattle.std.specs.Str.{bytes_eq}
 use Rattle.screen.proofs.Words.{nothing, flagged, plain}
 use Rattle.screen.proofs.arguments.read_request.Goals as goal
@@ -11,12 +9,12 @@ returns-then-words-eq0 c = nothing string_bytes c.args.words.now c.if-words-eq0.
 
 pub returns-then-eq : goal.returns-then-eq
 returns-then-eq c =
-    flagged string_bytes c.args.words.now c.index-words-0.result c.read-after.result c.if-words-eq0.false c.index-words-0.is
-    (same_from_decides _ _ c.if-eq.ensures (bytes_eq-Decides c.as-str.result.now (codes "--number")) ∙ ap (λ t. bytes_eq t (codes "--number")) c.as-str.ensures.value)
-    c.read-after.ensures
+    flagged string_bytes c.args.words.now c.index-words-0.result c.read_after.result c.if-words-eq0.false c.index-words-0.is
+    (c.if-eq.ensures ∙ ap (λ t. bytes_eq t (codes "--number")) c.as_str.ensures.value)
+    c.read_after.ensures
 
 pub returns-else-eq : goal.returns-else-eq
 returns-else-eq c =
-    plain string_bytes c.args.words.now c.index-words-0.result c.read-after-else-eq.result c.if-words-eq0.false c.index-words-0.is
-    (same_from_decides _ _ c.if-eq.ensures (bytes_eq-Decides c.as-str.result.now (codes "--number")) ∙ ap (λ t. bytes_eq t (codes "--number")) c.as-str.ensures.value)
-    c.read-after-else-eq.ensures
+    plain string_bytes c.args.words.now c.index-words-0.result c.read_after-else-eq.result c.if-words-eq0.false c.index-words-0.is
+    (c.if-eq.ensures ∙ ap (λ t. bytes_eq t (codes "--number")) c.as_str.ensures.value)
+    c.read_after-else-eq.ensures

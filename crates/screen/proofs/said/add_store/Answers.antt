@@ -11,6 +11,6 @@ some out (x ∷ xs) h = append_assoc out (codes "store ") (line (x ∷ xs))
 
 pub returns : goal.returns
 returns c =
-    IfOk-weaker c.add-line.result _ _
-    (λ _ e. e ∙ ap (λ (l : List ℕ). l ++ line c.args.store.now) c.in-ok-write.ensures.bytes ∙ some (string_bytes c.args.out.now) c.args.store.now c.if-store-eq0.false)
-    c.add-line.ensures
+    IfOk-weaker c.add_line.result _ _
+    (λ _ e. e ∙ ap (λ (l : List ℕ). l ++ line c.args.store.now) c.in_ok-write.ensures.bytes ∙ some (string_bytes c.args.out.now) c.args.store.now c.if-store-eq0.false)
+    c.add_line.ensures

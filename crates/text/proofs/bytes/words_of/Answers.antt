@@ -18,5 +18,5 @@ one_more done more bs rest whole w e f r h =
 pub loop-rest-preserved : goal.loop-rest-preserved
 loop-rest-preserved c =
     let bs = c.loop-rest.rest.now in
-    one_more _ _ bs _ _ c.from-le-bytes-word.result c.in-ok-push.ensures.items
-    (first bs c.loop-rest-test.true ∙ ap (λ w. w ∷ words (drop 4 bs)) (sym c.from-le-bytes-word.ensures)) (take_rest bs 4) c.loop-rest.invariant
+    one_more _ _ bs _ _ c.from_le_bytes-word.result c.in_ok-push.ensures.items
+    (first bs c.loop-rest-test.true ∙ ap (λ w. w ∷ words (drop 4 bs)) (sym c.from_le_bytes-word.ensures)) (take_rest bs 4) c.loop-rest.invariant

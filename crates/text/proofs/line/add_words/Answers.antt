@@ -13,6 +13,6 @@ pub returns : goal.returns
 returns c =
     let xs = c.args.words.now in
     let some : 0 < length xs = omega arith in
-    IfOk-weaker c.add-spaced.result _ _
-    (λ _ e. e ∙ ap (λ (l : List ℕ). l ++ spaced (between 1 (length xs) xs)) c.in-ok-write.ensures.bytes ∙ apart (string_bytes c.args.out.now) xs _ (first_rest xs 0 some))
-    c.add-spaced.ensures
+    IfOk-weaker c.add_spaced.result _ _
+    (λ _ e. e ∙ ap (λ (l : List ℕ). l ++ spaced (between 1 (length xs) xs)) c.in_ok-write.ensures.bytes ∙ apart (string_bytes c.args.out.now) xs _ (first_rest xs 0 some))
+    c.add_spaced.ensures

@@ -13,19 +13,19 @@ pub returns : goal.returns
 returns c =
     let ws = c.args.words.now in
     let out₀ = string_bytes c.args.out.now in
-    let out₁ = string_bytes c.add-pairs.new.out in
-    let out₂ = string_bytes c.add-section.new.out in
-    let out₃ = string_bytes c.add-section-2.new.out in
-    let out₄ = string_bytes c.add-section-3.new.out in
+    let out₁ = string_bytes c.add_pairs.new.out in
+    let out₂ = string_bytes c.add_section.new.out in
+    let out₃ = string_bytes c.add_section-2.new.out in
+    let out₄ = string_bytes c.add_section-3.new.out in
     let l₁ = line (take 8 ws) in
     let l₂ = line (section_of 0 1 ws) in
     let l₃ = line (section_of 2 3 ws) in
     let l₄ = line (section_of 4 5 ws) in
     let l₅ = line (section_of 6 7 ws) in
-    IfOk-weaker c.add-section-4.result _ _
+    IfOk-weaker c.add_section-4.result _ _
     (λ _ e.
-    behind out₀ out₁ _ l₁ (l₂ ++ (l₃ ++ (l₄ ++ l₅))) c.in-ok-add-pairs.ensures
-    (behind out₁ out₂ _ l₂ (l₃ ++ (l₄ ++ l₅)) c.in-ok-add-section.ensures
-    (behind out₂ out₃ _ l₃ (l₄ ++ l₅) c.in-ok-add-section-2.ensures
-    (behind out₃ out₄ _ l₄ l₅ c.in-ok-add-section-3.ensures e))))
-    c.add-section-4.ensures
+    behind out₀ out₁ _ l₁ (l₂ ++ (l₃ ++ (l₄ ++ l₅))) c.in_ok-add_pairs.ensures
+    (behind out₁ out₂ _ l₂ (l₃ ++ (l₄ ++ l₅)) c.in_ok-add_section.ensures
+    (behind out₂ out₃ _ l₃ (l₄ ++ l₅) c.in_ok-add_section-2.ensures
+    (behind out₃ out₄ _ l₄ l₅ c.in_ok-add_section-3.ensures e))))
+    c.add_section-4.ensures

@@ -1,13 +1,16 @@
-use Rattle.std.proofs.Common.{refl}
-use Rattle.hir.specs.Decode.{root_of}
+use Rattle.std.proofs.Common.{Option, sym, subst}
+use Rattle.hir.specs.declared.range.Range.{Range}
 use Rattle.hir.specs.Encode.{block_words}
-use Rattle.write.proofs.Rooms.{writable, written}
+use Rattle.hir.specs.Held.{slots}
+use Rattle.hir.specs.Tree.{Block}
+use Rattle.hir.proofs.Deepest.{root_from}
+use Rattle.write.specs.Puts.{Writable, Written}
 use Rattle.write.proofs.block.put_body.Goals as goal
 
-pub put-block-requires : goal.put-block-requires
-unfolding root_of
-put-block-requires c = writable block_words c.requires.stands c.requires.room
+pub put_block-requires : goal.put_block-requires
+put_block-requires c =
+    subst (λ (f : Range → Option Block). Writable block_words (f c.args.root) c.args.out.now c.args.at) (sym (root_from c.deepest.result c.deepest.ensures (slots c.args.arena.now))) c.requires
 
 pub returns : goal.returns
-unfolding root_of
-returns c = written c.requires c.requires.what refl (c.put-block.ensures.wrote _ c.requires.stands)
+returns c =
+    subst (λ (f : Range → Option Block). Written block_words (f c.args.root) c.args.out.now c.put_block.new.out c.args.at c.put_block.result) (root_from c.deepest.result c.deepest.ensures (slots c.args.arena.now)) c.put_block.ensures

@@ -9,12 +9,12 @@ pub loop-one-preserved : goal.loop-one-preserved
 loop-one-preserved c =
     elim c.if-one-owner.branch [
       | then-one-owner w ↦
-          let e = ap length (owned_one c.args.owner c.args.declared.now c.loop-one.one_Index _ c.loop-one-test.true w.if-one-owner.true) in
-          (omega (arith, w.count-is, c.loop-one.invariant.0, e ∙ length-append (owned c.args.owner (take c.loop-one.one_Index c.args.declared.now)) _), omega (arith, w.count-is, c.loop-one.invariant.1))
+          let e = ap length (owned_one c.args.owner c.args.declared.now c.loop-one.one-index _ c.loop-one-test.true w.if-one-owner.true) in
+          (omega (arith, w.count-is, c.loop-one.invariant.0, e ∙ length-append (owned c.args.owner (take c.loop-one.one-index c.args.declared.now)) _), omega (arith, w.count-is, c.loop-one.invariant.1))
       | else-one-owner w ↦
-          let e = ap length (owned_skip c.args.owner c.args.declared.now c.loop-one.one_Index _ c.loop-one-test.true w.if-one-owner.false) in
+          let e = ap length (owned_skip c.args.owner c.args.declared.now c.loop-one.one-index _ c.loop-one-test.true w.if-one-owner.false) in
           (omega (arith, w.count-is, c.loop-one.invariant.0, e), omega (arith, w.count-is, c.loop-one.invariant.1))
     ]
 
 pub returns : goal.returns
-returns c = c.loop-one.invariant.0 ∙ ap (λ l. length (owned c.args.owner l)) (take_all c.loop-one.one_Index c.args.declared.now c.loop-one-test.false)
+returns c = c.loop-one.invariant.0 ∙ ap (λ l. length (owned c.args.owner l)) (take_all c.loop-one.one-index c.args.declared.now c.loop-one-test.false)

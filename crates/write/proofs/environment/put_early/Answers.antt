@@ -6,4 +6,4 @@ use Rattle.write.proofs.environment.put_early.Goals as goal
 pub returns-in-Some : goal.returns-in-Some
 returns-in-Some c =
     wrote_as (ap (option_words early_words) (sym c.in-Some.is))
-    (wrote_more c.put-word-value.ensures (wrote_more c.put-word-span.ensures (wrote_more c.put-word-label.ensures c.put-word-in-Some.ensures)))
+    (wrote_more c.put_word-value.ensures (wrote_more c.put_word-span.ensures (wrote_more c.put_word-label.ensures c.put_word-in-Some.ensures)))

@@ -7,12 +7,12 @@ use Rattle.write.proofs.environment.put_identifiers.Goals as goal
 pub loop-identifier-init : goal.loop-identifier-init
 loop-identifier-init c = wrote_none c.args.out.now c.args.at (omega arith)
 
-pub put-identifier-next-requires : goal.put-identifier-next-requires
-put-identifier-next-requires c = turn_room identifier_words c.args.identifiers.now c.loop-identifier.identifier-index _ (omega arith) c.loop-identifier.invariant c.requires
+pub put_identifier-next-requires : goal.put_identifier-next-requires
+put_identifier-next-requires c = turn_room identifier_words c.args.identifiers.now c.loop-identifier.identifier-index _ (omega arith) c.loop-identifier.invariant c.requires
 
 pub loop-identifier-preserved : goal.loop-identifier-preserved
 loop-identifier-preserved c =
-    turn_wrote identifier_words c.args.identifiers.now c.loop-identifier.identifier-index _ (omega arith) c.loop-identifier.invariant c.put-identifier-next.ensures
+    turn_wrote identifier_words c.args.identifiers.now c.loop-identifier.identifier-index _ (omega arith) c.loop-identifier.invariant c.put_identifier-next.ensures
 
 pub returns : goal.returns
 returns c = all_wrote identifier_words _ c.loop-identifier.identifier-index (omega arith) c.loop-identifier.invariant

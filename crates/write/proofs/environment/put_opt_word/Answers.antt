@@ -4,4 +4,4 @@ use Rattle.write.proofs.Lay.{wrote_more, wrote_as}
 use Rattle.write.proofs.environment.put_opt_word.Goals as goal
 
 pub returns-in-Some : goal.returns-in-Some
-returns-in-Some c = wrote_as (ap (option_words word) (sym c.in-Some.is)) (wrote_more c.put-word-next.ensures c.put-word-in-Some.ensures)
+returns-in-Some c = wrote_as (ap (option_words word) (sym c.in-Some.is)) (wrote_more c.put_word-next.ensures c.put_word-in-Some.ensures)

@@ -8,8 +8,8 @@ use Rattle.write.proofs.environment.put_scopes.Goals as goal
 pub loop-scope-init : goal.loop-scope-init
 loop-scope-init c = (wrote_none c.args.out.now c.args.at (omega (arith, c.requires.room.fits)), refl)
 
-pub put-scope-next-requires : goal.put-scope-next-requires
-put-scope-next-requires c =
+pub put_scope-next-requires : goal.put_scope-next-requires
+put_scope-next-requires c =
     record {
       within = c.requires.within;
       room =
@@ -20,7 +20,7 @@ put-scope-next-requires c =
 pub loop-scope-preserved : goal.loop-scope-preserved
 loop-scope-preserved c = (
   scope_wrote c.args.scopes.now c.args.declared.now c.loop-scope.scope-index _ c.loop-scope.number c.loop-scope-test.true c.loop-scope.invariant.1
-      c.loop-scope.invariant.0 c.put-scope-next.ensures,
+      c.loop-scope.invariant.0 c.put_scope-next.ensures,
   omega (arith, c.loop-scope.invariant.1),
 )
 

@@ -3,5 +3,5 @@ use Rattle.write.proofs.terminal.put_jump.Goals as goal
 
 pub returns : goal.returns
 returns c =
-    wrote_more c.put-word-second.ensures
-    (wrote_more c.put-word-third.ensures (wrote_more c.put-word-fourth.ensures (word_as c.target-number.ensures c.put-word.ensures)))
+    wrote_more c.put_word-second.ensures
+    (wrote_more c.put_word-third.ensures (wrote_more c.put_word-fourth.ensures (word_as c.target_number.ensures c.put_word.ensures)))

@@ -1,13 +1,16 @@
-use Rattle.std.proofs.Common.{refl}
-use Rattle.hir.specs.Decode.{top_value}
+use Rattle.std.proofs.Common.{ℕ, Option, sym, subst}
+use Rattle.hir.specs.Decode.{instr_of}
 use Rattle.hir.specs.Encode.{instr_words}
-use Rattle.write.proofs.Rooms.{writable, written}
+use Rattle.hir.specs.Held.{value_slots}
+use Rattle.hir.specs.Tree.{Val}
+use Rattle.hir.proofs.Deepest.{top_from}
+use Rattle.write.specs.Puts.{Writable, Written}
 use Rattle.write.proofs.value.put_instruction.Goals as goal
 
-pub put-instr-requires : goal.put-instr-requires
-unfolding top_value
-put-instr-requires c = writable instr_words c.requires.stands c.requires.room
+pub put_instr-requires : goal.put_instr-requires
+put_instr-requires c =
+    subst (λ (f : ℕ → Option Val). Writable instr_words (instr_of f c.args.instruction) c.args.out.now c.args.at) (sym (top_from c.deepest.result c.deepest.ensures (value_slots c.args.arena.now))) c.requires
 
 pub returns : goal.returns
-unfolding top_value
-returns c = written c.requires c.requires.what refl (c.put-instr.ensures.wrote _ c.requires.stands)
+returns c =
+    subst (λ (f : ℕ → Option Val). Written instr_words (instr_of f c.args.instruction) c.args.out.now c.put_instr.new.out c.args.at c.put_instr.result) (top_from c.deepest.result c.deepest.ensures (value_slots c.args.arena.now)) c.put_instr.ensures

@@ -11,4 +11,4 @@ pub returns-in-Some : goal.returns-in-Some
 returns-in-Some c =
     let val = top_value (value_slots c.args.arena.now) in
     let p = some_value_parts val c.in-Some.slot c.requires.what (sym (ap (opt_value_of val) c.in-Some.is) ∙ c.requires.stands) in
-    written c.requires (some_val p.value) p.is (wrote_more c.put-word-next.ensures (c.put-top.ensures.wrote _ p.value_is))
+    written c.requires (some_val p.value) p.is (wrote_more c.put_word-next.ensures (c.put_top.ensures.wrote _ p.value_is))

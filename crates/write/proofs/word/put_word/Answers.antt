@@ -9,7 +9,7 @@ returns c =
     let four : 4 * at + (4 * at + 4 - 4 * at) ≡ 4 * (at + 1) = omega arith in
     let past = drop-drop (4 * at + 4 - 4 * at) (4 * at) o ∙ ap (λ n. drop n o) four in
     record {
-      is = ap₂ (λ x y. take (4 * at) o ++ (x ++ y)) (c.copy-from-slice.ensures.after ∙ c.to-le-bytes-bytes.ensures) past;
+      is = ap₂ (λ x y. take (4 * at) o ++ (x ++ y)) (c.copy_from_slice.ensures.after ∙ c.to_le_bytes-bytes.ensures) past;
       to = omega arith;
       fits = c.requires;
     }

@@ -2,21 +2,21 @@ use Rattle.std.proofs.Common.{rules}
 use Rattle.format.specs.Parse.{declaration}
 use Rattle.load.proofs.reader.Reader.declaration.Goals as goal
 
-pub returns-in-err-begin-declaration : goal.returns-in-err-begin-declaration
+pub returns-in_err-begin_declaration : goal.returns-in_err-begin_declaration
 unfolding declaration
-returns-in-err-begin-declaration c = search rules
+returns-in_err-begin_declaration c = search rules
 
-pub returns-in-err-key : goal.returns-in-err-key
+pub returns-in_err-key : goal.returns-in_err-key
 unfolding declaration
-returns-in-err-key c = search rules
+returns-in_err-key c = search rules
 
-pub returns-in-err-identifier : goal.returns-in-err-identifier
+pub returns-in_err-identifier : goal.returns-in_err-identifier
 unfolding declaration
-returns-in-err-identifier c = search rules
+returns-in_err-identifier c = search rules
 
-pub returns-in-err-scope : goal.returns-in-err-scope
+pub returns-in_err-scope : goal.returns-in_err-scope
 unfolding declaration
-returns-in-err-scope c = search rules
+returns-in_err-scope c = search rules
 
 pub returns : goal.returns
 unfolding declaration

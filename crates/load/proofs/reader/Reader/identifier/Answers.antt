@@ -2,33 +2,33 @@ use Rattle.std.proofs.Common.{rules}
 use Rattle.format.specs.Parse.{identifier}
 use Rattle.load.proofs.reader.Reader.identifier.Goals as goal
 
-pub returns-in-err-begin-identifier : goal.returns-in-err-begin-identifier
+pub returns-in_err-begin_identifier : goal.returns-in_err-begin_identifier
 unfolding identifier
-returns-in-err-begin-identifier c = search rules
+returns-in_err-begin_identifier c = search rules
 
-pub returns-in-err-declaration : goal.returns-in-err-declaration
+pub returns-in_err-declaration : goal.returns-in_err-declaration
 unfolding identifier
-returns-in-err-declaration c = search rules
+returns-in_err-declaration c = search rules
 
-pub returns-in-err-name : goal.returns-in-err-name
+pub returns-in_err-name : goal.returns-in_err-name
 unfolding identifier
-returns-in-err-name c = search rules
+returns-in_err-name c = search rules
 
-pub returns-in-err-range : goal.returns-in-err-range
+pub returns-in_err-range : goal.returns-in_err-range
 unfolding identifier
-returns-in-err-range c = search rules
+returns-in_err-range c = search rules
 
-pub returns-in-err-scope : goal.returns-in-err-scope
+pub returns-in_err-scope : goal.returns-in_err-scope
 unfolding identifier
-returns-in-err-scope c = search rules
+returns-in_err-scope c = search rules
 
-pub returns-in-err-kind : goal.returns-in-err-kind
+pub returns-in_err-kind : goal.returns-in_err-kind
 unfolding identifier
-returns-in-err-kind c = search rules
+returns-in_err-kind c = search rules
 
-pub returns-in-err-span : goal.returns-in-err-span
+pub returns-in_err-span : goal.returns-in_err-span
 unfolding identifier
-returns-in-err-span c = search rules
+returns-in_err-span c = search rules
 
 pub returns : goal.returns
 unfolding identifier

@@ -2,25 +2,25 @@ use Rattle.std.proofs.Common.{rules}
 use Rattle.format.specs.Parse.{place}
 use Rattle.load.proofs.reader.Reader.place.Goals as goal
 
-pub returns-in-err-begin-place : goal.returns-in-err-begin-place
+pub returns-in_err-begin_place : goal.returns-in_err-begin_place
 unfolding place
-returns-in-err-begin-place c = search rules
+returns-in_err-begin_place c = search rules
 
-pub returns-in-err-identifier : goal.returns-in-err-identifier
+pub returns-in_err-identifier : goal.returns-in_err-identifier
 unfolding place
-returns-in-err-identifier c = search rules
+returns-in_err-identifier c = search rules
 
-pub returns-in-err-effect : goal.returns-in-err-effect
+pub returns-in_err-effect : goal.returns-in_err-effect
 unfolding place
-returns-in-err-effect c = search rules
+returns-in_err-effect c = search rules
 
-pub returns-in-err-reactive : goal.returns-in-err-reactive
+pub returns-in_err-reactive : goal.returns-in_err-reactive
 unfolding place
-returns-in-err-reactive c = search rules
+returns-in_err-reactive c = search rules
 
-pub returns-in-err-span : goal.returns-in-err-span
+pub returns-in_err-span : goal.returns-in_err-span
 unfolding place
-returns-in-err-span c = search rules
+returns-in_err-span c = search rules
 
 pub returns : goal.returns
 unfolding place

@@ -1,4 +1,4 @@
-use Rattle.std.proofs.Common.{◌≡◌, ℕ, ◌<◌, List, vec_items, sym, subst}
+use Rattle.std.proofs.Common.{◌<◌, List, vec_items, sym, subst}
 use Rattle.hir.specs.Held.{slots}
 use Rattle.run.specs.declared.frame.Frame.{Frame}
 use Rattle.run.specs.Frames.{measure}

@@ -1,4 +1,4 @@
-use Rattle.std.proofs.Common.{ℕ, vec_items}
+use Rattle.std.proofs.Common.{vec_items}
 use Rattle.hir.specs.Held.{slots}
 use Rattle.semantics.specs.Machine.{Result}
 use Rattle.run.specs.Frames.{measure}

@@ -1,6 +1,4 @@
-use Rattle.std.proofs.Common.{◌≡◌, ℕ, ◌<◌, ◌≤◌, vec_items, sym, refl, ap, ◌∙◌, arith}
-use Rattle.std.proofs.lemmas.Bool.{eq-eqb, ne_eqb}
-use Rattle.run.proofs.Turning.{framed, more}
+use Rattle.std.proofs.Common.{vec_items}
 use Rattle.run.proofs.StepTurns.{on_assigns}
 use Rattle.run.proofs.memory.Memory.on_assigns.Goals as goal
 

@@ -1,5 +1,4 @@
-use Rattle.std.proofs.Common.{◌≡◌, ℕ, ◌<◌, ◌≤◌, vec_items, sym, refl, ap, ◌∙◌, arith}
-use Rattle.std.proofs.lemmas.Bool.{eq-eqb, ne_eqb}
+use Rattle.std.proofs.Common.{vec_items, sym, ap, ◌∙◌}
 use Rattle.hir.specs.declared.terminal.ReactiveTerminal.TheVariants as R
 use Rattle.hir.specs.declared.terminal.ReactiveTerminalTargetKind.{ReactiveTerminalTargetKind}
 use Rattle.run.specs.declared.frame.Target.TheVariants as T
@@ -11,22 +10,22 @@ pub returns-in-Implicit : goal.returns-in-Implicit
 returns-in-Implicit g c = λ w l.
     on_implicit_continue _ _ _ _ _ _ (vec_items c.args.self.now.frames) c.requires.normal c.args.slot c.args.depth c.args.statement c.requires.here l c.args.target c.args.id (c.requires.is ∙ ap (λ (k : ReactiveTerminalTargetKind). R.Continue c.args.target c.args.id k) c.in-Implicit.is)
 
-pub returns-then-has-target : goal.returns-then-has-target
-returns-then-has-target g c = λ w l.
+pub returns-then-has_target : goal.returns-then-has_target
+returns-then-has_target g c = λ w l.
     on_continue_to _ _ _ _ _ _ (vec_items c.args.self.now.frames) c.requires.normal c.args.slot c.args.depth c.args.statement c.requires.here l c.args.target c.args.id (c.requires.is ∙ ap (λ (k : ReactiveTerminalTargetKind). R.Continue c.args.target c.args.id k) c.in-Labeled.is)
-    (ap (any (T.ContinueTo c.args.target)) (sym c.as-slice.ensures.value) ∙ sym c.if-has-target.ensures)
+    (ap (any (T.ContinueTo c.args.target)) (sym c.as_slice.ensures.value) ∙ sym c.if-has_target.ensures)
 
-pub returns-else-has-target : goal.returns-else-has-target
-returns-else-has-target g c = λ w l.
+pub returns-else-has_target : goal.returns-else-has_target
+returns-else-has_target g c = λ w l.
     on_continue_to_nowhere _ _ _ _ _ _ (vec_items c.args.self.now.frames) c.requires.normal c.args.slot c.args.depth c.args.statement c.requires.here l c.args.target c.args.id (c.requires.is ∙ ap (λ (k : ReactiveTerminalTargetKind). R.Continue c.args.target c.args.id k) c.in-Labeled.is)
-    (ap (any (T.ContinueTo c.args.target)) (sym c.as-slice.ensures.value) ∙ sym c.if-has-target.ensures)
+    (ap (any (T.ContinueTo c.args.target)) (sym c.as_slice.ensures.value) ∙ sym c.if-has_target.ensures)
 
-pub returns-then-has-target-2 : goal.returns-then-has-target-2
-returns-then-has-target-2 g c = λ w l.
+pub returns-then-has_target-2 : goal.returns-then-has_target-2
+returns-then-has_target-2 g c = λ w l.
     on_continue _ _ _ _ _ _ (vec_items c.args.self.now.frames) c.requires.normal c.args.slot c.args.depth c.args.statement c.requires.here l c.args.target c.args.id (c.requires.is ∙ ap (λ (k : ReactiveTerminalTargetKind). R.Continue c.args.target c.args.id k) c.in-Unlabeled.is)
-    (ap (any T.Continue) (sym c.as-slice-in-Unlabeled.ensures.value) ∙ sym c.if-has-target-2.ensures)
+    (ap (any T.Continue) (sym c.as_slice-in-Unlabeled.ensures.value) ∙ sym c.if-has_target-2.ensures)
 
-pub returns-else-has-target-2 : goal.returns-else-has-target-2
-returns-else-has-target-2 g c = λ w l.
+pub returns-else-has_target-2 : goal.returns-else-has_target-2
+returns-else-has_target-2 g c = λ w l.
     on_continue_nowhere _ _ _ _ _ _ (vec_items c.args.self.now.frames) c.requires.normal c.args.slot c.args.depth c.args.statement c.requires.here l c.args.target c.args.id (c.requires.is ∙ ap (λ (k : ReactiveTerminalTargetKind). R.Continue c.args.target c.args.id k) c.in-Unlabeled.is)
-    (ap (any T.Continue) (sym c.as-slice-in-Unlabeled.ensures.value) ∙ sym c.if-has-target-2.ensures)
+    (ap (any T.Continue) (sym c.as_slice-in-Unlabeled.ensures.value) ∙ sym c.if-has_target-2.ensures)

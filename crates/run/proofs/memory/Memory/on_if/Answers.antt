@@ -1,4 +1,4 @@
-use Rattle.std.proofs.Common.{◌≡◌, ℕ, ◌<◌, ◌≤◌, Some, None, vec_items, Option, sym, refl, ap, ◌∙◌, arith}
+use Rattle.std.proofs.Common.{vec_items, Option, ap, ◌∙◌}
 use Rattle.std.proofs.lemmas.Bool.{eq-eqb, ne_eqb}
 use Rattle.hir.specs.declared.range.Range.{Range}
 use Rattle.hir.specs.declared.terminal.ReactiveTerminal.TheVariants as R
@@ -10,23 +10,23 @@ use Rattle.run.proofs.memory.Memory.on_if.Goals as goal
 pub returns-then-v-ne0 : goal.returns-then-v-ne0
 returns-then-v-ne0 g c = λ w l.
     let r = c.in-Value.ensures in
-    framed (more _ c.push-reserved.ensures.items c.push-reserved-then-v-ne0.ensures.items)
+    framed (more _ c.push_reserved.ensures.items c.push_reserved-then-v-ne0.ensures.items)
     (on_if_yes _ _ _ _ _ _ (vec_items c.args.self.now.frames) c.requires.normal c.args.slot c.args.depth c.args.statement c.requires.here l c.args.test c.args.consequent c.args.id c.read-given.result _ c.read-given.ensures _ r.moves
     c.args.label c.requires.marked c.args.alternate c.requires.is r.answers (ne_eqb _ _ c.if-v-ne0.true))
 
 pub returns-in-Some : goal.returns-in-Some
 returns-in-Some g c = λ w l.
     let r = c.in-Value.ensures in
-    framed (more _ c.push-reserved.ensures.items c.push-reserved-in-Some.ensures.items)
+    framed (more _ c.push_reserved.ensures.items c.push_reserved-in-Some.ensures.items)
     (on_if_no _ _ _ _ _ _ (vec_items c.args.self.now.frames) c.requires.normal c.args.slot c.args.depth c.args.statement c.requires.here l c.args.test c.args.consequent c.args.id c.read-given.result _ c.read-given.ensures _ r.moves
     c.args.label c.requires.marked c.in-Some.block (c.requires.is ∙ ap (λ (o : Option Range). R.If c.args.test c.args.consequent o c.args.id) c.in-Some.is) r.answers (eq-eqb _ _ c.if-v-ne0.false))
 
-pub returns-in-default : goal.returns-in-default
-returns-in-default g c = λ w l.
+pub returns-in_default : goal.returns-in_default
+returns-in_default g c = λ w l.
     let r = c.in-Value.ensures in
-    framed c.push-reserved.ensures.items
+    framed c.push_reserved.ensures.items
     (on_if_none _ _ _ _ _ _ (vec_items c.args.self.now.frames) c.requires.normal c.args.slot c.args.depth c.args.statement c.requires.here l c.args.test c.args.consequent c.args.id c.read-given.result _ c.read-given.ensures _ r.moves
-    c.args.label c.requires.marked (c.requires.is ∙ ap (λ (o : Option Range). R.If c.args.test c.args.consequent o c.args.id) (none_of c.args.alternate c.in-default.not-Some)) r.answers (eq-eqb _ _ c.if-v-ne0.false))
+    c.args.label c.requires.marked (c.requires.is ∙ ap (λ (o : Option Range). R.If c.args.test c.args.consequent o c.args.id) (none_of c.args.alternate c.in_default.not-Some)) r.answers (eq-eqb _ _ c.if-v-ne0.false))
 
 pub returns-in-Thrown : goal.returns-in-Thrown
 returns-in-Thrown g c = λ w l.

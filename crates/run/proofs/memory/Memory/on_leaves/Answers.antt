@@ -1,4 +1,4 @@
-use Rattle.std.proofs.Common.{◌≡◌, ℕ, ◌<◌, ◌≤◌, vec_items, sym, refl, ap, ◌∙◌, add-one, arith}
+use Rattle.std.proofs.Common.{vec_items, sym, ◌∙◌}
 use Rattle.std.proofs.lemmas.Bool.{eq-eqb, ne_eqb}
 use Rattle.run.proofs.BlockTurns.{leaves_none, leaves_empty, leaves_return}
 use Rattle.run.proofs.memory.Memory.on_leaves.Goals as goal

@@ -1,4 +1,4 @@
-use Rattle.std.proofs.Common.{◌≡◌, vec_items, refl, arith}
+use Rattle.std.proofs.Common.{vec_items, arith}
 use Rattle.run.proofs.Operating.{slot_rows}
 use Rattle.run.proofs.ValueTurns.{on_operation}
 use Rattle.run.proofs.memory.Memory.on_operation.Goals as goal
