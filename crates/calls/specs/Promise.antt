@@ -8,7 +8,7 @@ use Rattle.semantics.specs.Targets.{TgB, nowhere}
 use Rattle.semantics.specs.declared.Outcome.TheVariants.{Returned}
 use Rattle.simulation.specs.WellFormed.{All, WellFormed}
 use Rattle.simulation.specs.Faithful.{SameStart, Faithful}
-use Rattle.calls.specs.Calls.{Call, opening, keeping, taking_back, running, lowering, pruning, walking, Made, settled, draft, found, after_all}
+use Rattle.calls.specs.Calls.{Call, opening, keeping, taking_back, running, lowering, pruning, walking, Made, settled, found, after_all}
 
 -- what a load gives: a well-formed function whose scopes have no record
 pub record Loaded (F : Function) : Type 0 where

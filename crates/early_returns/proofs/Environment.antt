@@ -4,7 +4,7 @@ use Rattle.std.proofs.Common.{◌≡◌, ℕ, suc, ◌+◌, List, [], ◌∷◌,
 use Rattle.hir.specs.declared.environment.Identifier.{Identifier}
 use Rattle.hir.specs.Tree.{ScopeInfo, Block}
 use Rattle.early_returns.specs.Statements.{opening}
-use Rattle.early_returns.specs.Lowering.{Env, ids, blocks, fresh, five, change, after_scope}
+use Rattle.early_returns.specs.Lowering.{Env, ids, blocks, fresh, change, after_scope}
 use Rattle.early_returns.specs.Pass.{create_temporary, promoted, EarlyReturnInfo, early_return, apply_early_return}
 
 change_last : {A : Type 0} (xs : List A) (a : A) (f : A → A) → change (xs ++ (a ∷ [])) (length xs) f ≡ xs ++ (f a ∷ [])

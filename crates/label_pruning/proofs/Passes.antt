@@ -7,7 +7,7 @@ use Rattle.hir.specs.Tree.{Op, Val, operation, logical, conditional, sequence, o
 use Rattle.host.specs.Asked.{asked}
 use Rattle.host.specs.declared.Reply.{Reply}
 use Rattle.host.specs.declared.Reply.TheVariants.{Value, Thrown}
-use Rattle.semantics.specs.Machine.{Meaning, State, Out, normal, broke, continued, returned, threw, Result, done, spent, stepped, moved, at, branch, bind, handle, map_out, leave, on_reply, ask, test, ask_each, tick, iter}
+use Rattle.semantics.specs.Machine.{Meaning, State, Out, normal, broke, continued, returned, threw, Result, done, spent, stepped, moved, branch, bind, handle, map_out, leave, on_reply, ask, test, ask_each, tick, iter}
 use Rattle.semantics.specs.Exec.{Class, loads, declares, stores, asks_each, asks, class, when, has_label, end_loop, end_round, end_label, eval_op, eval_v, eval_i, eval_is, eval_o, select, tested, run_s, run_t, run_from, run_o, run_b, always, default}
 use Rattle.semantics.specs.Targets.{mark, mark_inside}
 use Rattle.label_pruning.specs.Pruning.{targets_s, targets_t, targets_k, targets_o, targets_b}

@@ -1,10 +1,9 @@
 -- What each way through the reading of a statement leaves. Assumes nothing.
-use Rattle.std.proofs.Common.{◌≡◌, ℕ, Bool, List, [], ◌∷◌, ◌++◌, Some, None, Ok, Err, Option, Result, sym, refl, ap, ◌∙◌}
+use Rattle.std.proofs.Common.{◌≡◌, ℕ, List, [], ◌∷◌, Some, None, Ok, Option, Result, sym, refl, ap, ◌∙◌}
 use Rattle.std.proofs.lemmas.Result.{MatchResult-weaker}
 use Rattle.hir.specs.declared.arena.Arena.{Arena}
 use Rattle.hir.specs.declared.place.Place.{Place}
 use Rattle.hir.specs.declared.range.Range.{Range}
-use Rattle.hir.specs.declared.statement.ReactiveStatement.{ReactiveStatement}
 use Rattle.hir.specs.declared.statement.ReactiveStatement.TheVariants.{Instruction, Terminal, Scope, PrunedScope}
 use Rattle.hir.specs.declared.terminal.ReactiveLabel.{ReactiveLabel}
 use Rattle.hir.specs.declared.terminal.ReactiveTerminal.{ReactiveTerminal}
@@ -12,16 +11,16 @@ use Rattle.hir.specs.declared.terminal.ReactiveTerminal.TheVariants.{Switch, DoW
 use Rattle.hir.specs.declared.terminal.ReactiveTerminalStatement.{ReactiveTerminalStatement}
 use Rattle.hir.specs.declared.used.Used.{Used}
 use Rattle.hir.specs.declared.value.ReactiveInstruction.{ReactiveInstruction}
-use Rattle.hir.specs.Decode.{Slots, opt_value_of, opt_block_of, cases_of, block_of, top_value as top_slot}
+use Rattle.hir.specs.Decode.{Slots, cases_of, block_of}
 use Rattle.hir.specs.Held.{slots}
 use Rattle.hir.specs.Options.{bind, nth, part}
-use Rattle.hir.specs.Tree.{Val, OptVal, Stmt, instruction, scope, pruned, terminal, Term, break, continue, return, throw, switch, do_while, while, for, for_of, for_in, if, label, try, Cases, OptBlock, no_block, some_block, Block}
-use Rattle.hir.proofs.Grow.{Under, bound, same_under, top_grows, block_grows, opt_value_under, opt_block_under, cases_under, part_grows}
+use Rattle.hir.specs.Tree.{Stmt, instruction, scope, pruned, terminal, Term, break, continue, return, throw, switch, do_while, while, for, for_of, for_in, if, label, try, Cases, OptBlock, no_block, some_block}
+use Rattle.hir.proofs.Grow.{Under, bound, same_under, top_grows, block_grows, opt_value_under, opt_block_under}
 use Rattle.format.specs.declared.fault.FileFault.{FileFault}
 use Rattle.format.specs.Parse.{Cursor, Read, onto, give, word, order, case, option, place, top_value, opt_value, label_read, jump_read, leave_read, instruction_read, block, opt_block, cases_read, switch_read, do_while_read, while_read, for_read, for_of_read, for_in_read, if_read, label_block_read, try_read, term_read, terminal_read, scope_read, stmt_read}
 use Rattle.load.specs.declared.reader.Reader.{Reader}
 use Rattle.load.specs.Reads.{cursor}
-use Rattle.load.specs.Blocks.{Frame, BlockIn, ReadsBlock, JumpIn, ReadsJump, slot_in, opt_slot_in, plain_in, opt_block_in, cases_in, case_in, case_read, term_in, terminal_in, stmt_in}
+use Rattle.load.specs.Blocks.{Frame, BlockIn, ReadsBlock, ReadsJump, slot_in, opt_slot_in, plain_in, opt_block_in, cases_in, case_in, case_read, term_in, terminal_in, stmt_in}
 use Rattle.load.proofs.BlockSteps.{frame_later, frame_more, after_leaf}
 use Rattle.load.proofs.Chosen.{case_from}
 use Rattle.load.proofs.Iterate.{onto_onto}

@@ -1,5 +1,5 @@
 -- Statements and switch cases, one after another, and the rows that they become. Assumes nothing.
-use Rattle.std.proofs.Common.{◌≡◌, ℕ, zero, suc, ◌+◌, ◌-◌, ◌<◌, ◌≤◌, ◌≢◌, List, [], ◌∷◌, ◌++◌, length, take, drop, Some, None, Ok, Err, vec_items, vec_len, Option, sym, refl, ap, ◌∙◌, append_assoc, append-nil, add-one, arith, length-append}
+use Rattle.std.proofs.Common.{◌≡◌, ℕ, suc, ◌+◌, ◌-◌, ◌<◌, ◌≤◌, ◌≢◌, [], ◌∷◌, ◌++◌, length, take, drop, Some, None, Ok, Err, vec_items, vec_len, Option, sym, refl, ap, ◌∙◌, append_assoc, append-nil, add-one, arith, length-append}
 use Rattle.std.proofs.lemmas.List.{drop_at, take_at}
 use Rattle.hir.specs.declared.arena.Arena.{Arena}
 use Rattle.hir.specs.declared.place.Place.{Place}
@@ -8,7 +8,7 @@ use Rattle.hir.specs.declared.statement.ReactiveStatement.{ReactiveStatement}
 use Rattle.hir.specs.declared.terminal.ReactiveSwitchCase.{ReactiveSwitchCase}
 use Rattle.hir.specs.declared.used.Used.{Used}
 use Rattle.hir.specs.declared.value_arena.ValueArena.{ValueArena}
-use Rattle.hir.specs.Decode.{Slots, opt_block_of, cases_of, body_of, slot_of, block_of, top_value}
+use Rattle.hir.specs.Decode.{Slots, opt_block_of, cases_of, body_of, block_of, top_value}
 use Rattle.hir.specs.Grows.{ValuesGrow, SlotsGrow}
 use Rattle.hir.specs.Held.{slots, value_slots}
 use Rattle.hir.specs.Limits.{Within}
@@ -17,11 +17,11 @@ use Rattle.hir.specs.Tree.{Stmt, Cases, knil, kcons, OptBlock, Block, nil, cons}
 use Rattle.hir.proofs.Grow.{Under, bind_under, same_under, opt_block_under, grows_same, slots_more, slot_grows, slot_added, body_under, block_added, block_grows, cases_under, part_at}
 use Rattle.format.specs.declared.fault.FileFault.{FileFault}
 use Rattle.format.specs.Parse.{Cursor, Read, onto, give, word, option, place, begin_statement, begin_case, block, opt_block, stmt_read, stmts_read, cases_read}
-use Rattle.load.specs.Blocks.{Room, Step, Frame, BlockIn, StmtsIn, CasesIn, stmt_in, stmt_slot, case_in, case_read, cases_in}
+use Rattle.load.specs.Blocks.{Room, BlockIn, StmtsIn, CasesIn, stmt_in, stmt_slot, case_in, case_read, cases_in}
 use Rattle.load.specs.Values.{ValueStep}
-use Rattle.load.proofs.BlockSteps.{step_later, step_more}
+use Rattle.load.proofs.BlockSteps.{step_later}
 use Rattle.load.proofs.Iterate.{Repeats, Rows, many_snoc, many_stop, row_snoc, onto_onto}
-use Rattle.load.proofs.Later.{within_same, within_more, word_later, statement_begun, case_begun, statement_more, case_more}
+use Rattle.load.proofs.Later.{within_same, word_later, statement_begun, case_begun}
 use Rattle.load.proofs.ValueSteps as Values
 
 onto_ext : {X Y : Type 0} (r : Read X) (f g : X → Cursor → Read Y) → ((x : X) (c : Cursor) → f x c ≡ g x c) → onto r f ≡ onto r g

@@ -1,21 +1,18 @@
 -- How steps of the tables go together. Assumes nothing.
-use Rattle.std.proofs.Common.{◌≡◌, ℕ, ◌+◌, ◌≤◌, List, [], ◌∷◌, Some, None, Ok, Err, vec_items, vec_len, Option, Result, sym, refl, ap, ◌∙◌, arith}
-use Rattle.std.proofs.lemmas.Result.{MatchResult-weaker}
+use Rattle.std.proofs.Common.{◌≡◌, ℕ, List, [], ◌∷◌, Some, None, Ok, vec_items, vec_len, Option, refl, ap, ◌∙◌, arith}
 use Rattle.hir.specs.declared.arena.Arena.{Arena}
 use Rattle.hir.specs.declared.used.Used.{Used}
 use Rattle.hir.specs.Decode.{ValueSlots, Slots}
-use Rattle.hir.specs.Grows.{SlotsGrow}
-use Rattle.hir.specs.Held.{slots, value_slots}
+use Rattle.hir.specs.Held.{slots}
 use Rattle.hir.specs.Limits.{Within}
 use Rattle.hir.specs.Options.{bind}
 use Rattle.hir.specs.Tree.{OptVal, no_val, some_val}
 use Rattle.hir.proofs.Grow.{grows_same, slots_same, slots_more}
-use Rattle.format.specs.declared.fault.FileFault.{FileFault}
-use Rattle.format.specs.Parse.{Cursor, Read, onto, give, word, case, opt_value, top_value}
+use Rattle.format.specs.Parse.{Cursor, Read, onto, give, word, opt_value, top_value}
 use Rattle.load.specs.Blocks.{Room, Step, Frame, BlockIn, slot_in, opt_slot_in}
 use Rattle.load.specs.Values.{ValueIn}
 use Rattle.load.proofs.Chosen.{case_from}
-use Rattle.load.proofs.Later.{within_same, within_more, word_later}
+use Rattle.load.proofs.Later.{word_later}
 use Rattle.load.proofs.ValueSteps as Values
 
 pub step_later : {u v : Used} (a : Arena) → Within u v → Step a a u v

@@ -1,5 +1,5 @@
 -- What each section of a file leaves, and the file. Assumes nothing.
-use Rattle.std.proofs.Common.{◌≡◌, ℕ, ◌+◌, ◌-◌, ◌≤◌, true, false, List, [], ◌∷◌, ◌++◌, length, is_some, Some, Ok, Err, vec_items, vec_len, Result, unwrap_or, sym, refl, ap, ◌∙◌, arith}
+use Rattle.std.proofs.Common.{◌≡◌, ℕ, ◌≤◌, true, false, List, [], length, is_some, Some, Ok, Err, vec_items, Result, unwrap_or, sym, refl, ap, ◌∙◌, arith}
 use Rattle.hir.specs.declared.arena.Arena.{Arena}
 use Rattle.hir.specs.declared.environment.Environment.{Environment}
 use Rattle.hir.specs.declared.environment.Counters.{Counters}
@@ -7,7 +7,7 @@ use Rattle.hir.specs.declared.environment.Identifier.{Identifier}
 use Rattle.hir.specs.declared.range.Range.{Range}
 use Rattle.hir.specs.declared.used.Used.{Used}
 use Rattle.hir.specs.Decode.{Slots, block_of, root_of}
-use Rattle.hir.specs.Held.{held, slots}
+use Rattle.hir.specs.Held.{held}
 use Rattle.hir.specs.Limits.{Within, limits}
 use Rattle.hir.specs.Sizes.{sizes, none}
 use Rattle.hir.specs.Tree.{Block, nil, ScopeInfo, Function}

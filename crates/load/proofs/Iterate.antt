@@ -1,5 +1,5 @@
 -- So many items, one after another: one more at the end, or a refusal there. Assumes nothing.
-use Rattle.std.proofs.Common.{◌≡◌, ℕ, zero, suc, ◌+◌, ◌<◌, List, [], ◌∷◌, ◌++◌, Some, None, Ok, Err, Option, sym, refl, ap, ◌∙◌, arith}
+use Rattle.std.proofs.Common.{◌≡◌, ℕ, zero, suc, ◌<◌, List, [], ◌∷◌, ◌++◌, Some, Ok, Err, Option, sym, refl, ap, ◌∙◌, arith}
 use Rattle.hir.specs.Options.{bind}
 use Rattle.hir.proofs.Grow.{bound}
 use Rattle.format.specs.declared.fault.FileFault.{FileFault}

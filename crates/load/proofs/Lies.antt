@@ -1,7 +1,6 @@
 -- Words of a part of the bytes, where the part begins and ends with a word. Assumes nothing.
-use Rattle.std.proofs.Common.{◌≡◌, ℕ, zero, suc, ◌+◌, ◌-◌, ◌*◌, ◌/◌, ◌≤◌, Bool, true, false, cond, List, [], ◌∷◌, length, get_or, take, drop, Ok, Err, sym, refl, ap, ◌∙◌, ap₂, arith, length-drop, length-take-le}
+use Rattle.std.proofs.Common.{◌≡◌, ℕ, zero, suc, ◌+◌, ◌-◌, ◌*◌, ◌/◌, ◌≤◌, true, false, cond, List, [], ◌∷◌, length, get_or, take, drop, Err, sym, refl, ap, ◌∙◌, arith, length-drop, length-take-le}
 use Rattle.hir.specs.declared.used.Used.{Used}
-use Rattle.format.specs.declared.fault.FileFault.{FileFault}
 use Rattle.format.specs.declared.fault.FileFault.TheVariants.{Reading}
 use Rattle.format.specs.Parse.{to_end}
 use Rattle.format.specs.Words.{words}

@@ -1,5 +1,5 @@
 -- A reading leaves no more words than there were, and an item of the tables at least one fewer. Assumes nothing.
-use Rattle.std.proofs.Common.{◌≡◌, ℕ, zero, suc, ◌+◌, ◌≤◌, Bool, true, false, List, [], ◌∷◌, length, Some, None, Ok, Err, refl, ap, ◌∙◌, subst, arith}
+use Rattle.std.proofs.Common.{◌≡◌, ℕ, zero, suc, ◌+◌, ◌≤◌, Bool, true, false, List, [], ◌∷◌, length, Some, None, Ok, Err, refl, subst, arith}
 use Rattle.hir.specs.declared.used.Used.{Used}
 use Rattle.hir.specs.Options.{nth}
 use Rattle.format.specs.Parse.{Cursor, Read, onto, give, next_of, word, chosen, case, option, times, listed, counted, begin_identifier, begin_declaration, begin_scope, names, identifier, early_read, declaration, scope_info}

@@ -1,5 +1,5 @@
 -- What each way through the reading of the tables leaves. Assumes nothing.
-use Rattle.std.proofs.Common.{◌≡◌, ℕ, zero, suc, ◌+◌, ◌<◌, ◌≤◌, Bool, true, false, cond, eqb, List, [], ◌∷◌, ◌++◌, length, Ok, Err, vec_items, vec_len, Option, sym, refl, ap, ◌∙◌, subst, ap₂, append_assoc, append-nil, zero-add, add-one, arith, length-append, eq-eqb, ne_eqb}
+use Rattle.std.proofs.Common.{◌≡◌, ℕ, zero, suc, ◌+◌, ◌<◌, ◌≤◌, Bool, true, false, cond, eqb, List, [], ◌∷◌, ◌++◌, length, Ok, Err, vec_items, vec_len, Option, sym, refl, ap, ◌∙◌, ap₂, append_assoc, append-nil, add-one, arith, length-append, eq-eqb, ne_eqb}
 use Rattle.hir.specs.declared.environment.Declared.{Declared}
 use Rattle.hir.specs.declared.environment.Environment.{Environment}
 use Rattle.hir.specs.declared.environment.Identifier.{Identifier}
@@ -7,12 +7,11 @@ use Rattle.hir.specs.declared.environment.ReactiveScope.{ReactiveScope}
 use Rattle.hir.specs.declared.environment.ReactiveScopeDeclaration.{ReactiveScopeDeclaration}
 use Rattle.hir.specs.declared.environment.ReactiveScopeEarlyReturn.{ReactiveScopeEarlyReturn}
 use Rattle.hir.specs.Held.{owned, scopes_from}
-use Rattle.hir.specs.Tree.{ScopeInfo}
 use Rattle.format.specs.declared.fault.FileFault.{FileFault}
-use Rattle.format.specs.Parse.{Cursor, Read, onto, give, word, option, times, listed, until_end, every, begin_scope, identifier, early_read, declaration, scope_info}
+use Rattle.format.specs.Parse.{Cursor, Read, onto, give, word, option, times, until_end, every, begin_scope, identifier, early_read, declaration, scope_info}
 use Rattle.load.specs.Environments.{none_left, TablesRoom, IdentifiersIn, IdentifiersMid, declared, DeclarationsIn, ScopeIn, Owners, infos, ScopesIn, ScopesMid, Midway}
 use Rattle.load.proofs.Iterate.{Repeats, many_snoc, many_stop, onto_onto}
-use Rattle.load.proofs.Later.{word_later, option_later, early_later, identifier_counted, declaration_counted, scope_begun, scope_more}
+use Rattle.load.proofs.Later.{word_later, option_later, early_later, identifier_counted, declaration_counted, scope_begun}
 use Rattle.load.proofs.Shorter.{Shorter, identifier_shorter, scope_shorter}
 
 -- ---- items until the section ends

@@ -1,31 +1,29 @@
 -- What each way through the reading of a value leaves. Assumes nothing.
-use Rattle.std.proofs.Common.{◌≡◌, ℕ, zero, suc, ◌+◌, ◌-◌, ◌<◌, ◌≤◌, Bool, ◌≢◌, List, [], ◌∷◌, ◌++◌, length, take, drop, Some, None, Ok, Err, vec_items, vec_len, Option, Result, sym, refl, ap, ◌∙◌, append_assoc, append-nil, add-one, arith, length-append}
+use Rattle.std.proofs.Common.{◌≡◌, ℕ, suc, ◌+◌, ◌-◌, ◌<◌, ◌≤◌, Bool, ◌≢◌, List, [], ◌∷◌, ◌++◌, length, take, drop, Some, Ok, Err, vec_items, vec_len, Option, Result, sym, refl, ap, ◌∙◌, append_assoc, append-nil, add-one, arith, length-append}
 use Rattle.std.proofs.lemmas.List.{drop_at, take_at}
 use Rattle.std.proofs.lemmas.Result.{MatchResult-weaker}
 use Rattle.hir.specs.declared.place.Place.{Place}
 use Rattle.hir.specs.declared.range.Range.{Range}
-use Rattle.hir.specs.declared.used.Used.{Used}
 use Rattle.hir.specs.declared.value.InstructionValue.{InstructionValue}
 use Rattle.hir.specs.declared.value.LogicalOperator.{LogicalOperator}
 use Rattle.hir.specs.declared.value.ReactiveInstruction.{ReactiveInstruction}
 use Rattle.hir.specs.declared.value.ReactiveValue.{ReactiveValue}
 use Rattle.hir.specs.declared.value.ReactiveValue.TheVariants.{Instruction, LogicalExpression, ConditionalExpression, SequenceExpression, OptionalExpression}
 use Rattle.hir.specs.declared.value_arena.ValueArena.{ValueArena}
-use Rattle.hir.specs.Decode.{ValueSlots, op_of, instr_of, instrs_of, val_of, value_of}
-use Rattle.hir.specs.Grows.{Grows, ValuesGrow}
+use Rattle.hir.specs.Decode.{op_of, instr_of, instrs_of, value_of}
+use Rattle.hir.specs.Grows.{ValuesGrow}
 use Rattle.hir.specs.Held.{value_slots}
-use Rattle.hir.specs.Limits.{Within}
 use Rattle.hir.specs.Options.{bind, nth, part}
-use Rattle.hir.specs.Tree.{Op, Val, operation, logical, conditional, sequence, optional, Instr, instr, Instrs, inil, icons}
-use Rattle.hir.proofs.Grow.{bound, grows_same, values_same, values_more, value_added, value_grows, instrs_under, instr_under, part_at, part_grows}
+use Rattle.hir.specs.Tree.{Val, operation, logical, conditional, sequence, optional, Instr, instr, Instrs, inil, icons}
+use Rattle.hir.proofs.Grow.{bound, grows_same, values_more, value_added, value_grows, instrs_under, instr_under, part_at, part_grows}
 use Rattle.format.specs.declared.fault.FileFault.{FileFault}
 use Rattle.format.specs.Parse.{Cursor, Read, onto, give, word, order, flag, case, option, operators, place, op, begin_statement, begin_value, value, val_read, logical_read, conditional_read, sequence_read, optional_read, instr_read, instrs_read}
 use Rattle.load.specs.declared.reader.Reader.{Reader}
 use Rattle.load.specs.Reads.{cursor}
-use Rattle.load.specs.Values.{ValueRoom, ValueStep, ValueIn, ReadsValue, InstrsIn, val_in, instr_in, instrs_in}
+use Rattle.load.specs.Values.{ValueRoom, ValueIn, ReadsValue, InstrsIn, val_in, instr_in, instrs_in}
 use Rattle.load.proofs.Chosen.{case_from}
 use Rattle.load.proofs.Iterate.{Repeats, Rows, many_snoc, many_stop, row_snoc, onto_onto}
-use Rattle.load.proofs.Later.{within_same, within_more, word_later, order_later, flag_later, option_later, operators_later, place_later, statement_begun, value_begun, statement_more, value_more}
+use Rattle.load.proofs.Later.{within_same, within_more, word_later, order_later, flag_later, option_later, operators_later, place_later, statement_begun, value_begun}
 use Rattle.load.proofs.ValueSteps.{step_later, step_more, after_leaf}
 
 -- ---- the case of a value

@@ -1,25 +1,19 @@
 -- How the parts of a value go together. Assumes nothing.
-use Rattle.std.proofs.Common.{◌≡◌, ℕ, zero, suc, ◌+◌, ◌-◌, ◌<◌, ◌≤◌, List, [], ◌∷◌, ◌++◌, length, take, drop, Some, None, Ok, Err, vec_items, vec_len, Option, sym, refl, ap, ◌∙◌, append_assoc, append-nil, add-one, arith, length-append}
-use Rattle.std.proofs.lemmas.List.{drop_at, take_at}
+use Rattle.std.proofs.Common.{◌≡◌, ℕ, ◌+◌, ◌<◌, ◌≤◌, List, [], ◌∷◌, ◌++◌, Some, Ok, Err, vec_items, vec_len, Option, sym, refl, ap, ◌∙◌, append_assoc, append-nil, add-one, arith, length-append}
 use Rattle.hir.specs.declared.place.Place.{Place}
 use Rattle.hir.specs.declared.range.Range.{Range}
 use Rattle.hir.specs.declared.used.Used.{Used}
-use Rattle.hir.specs.declared.value.InstructionValue.{InstructionValue}
-use Rattle.hir.specs.declared.value.ReactiveInstruction.{ReactiveInstruction}
-use Rattle.hir.specs.declared.value.ReactiveValue.{ReactiveValue}
 use Rattle.hir.specs.declared.value_arena.ValueArena.{ValueArena}
-use Rattle.hir.specs.Decode.{ValueSlots, op_of, instr_of, instrs_of, val_of, value_of}
-use Rattle.hir.specs.Grows.{Grows, ValuesGrow}
+use Rattle.hir.specs.Decode.{ValueSlots, op_of}
 use Rattle.hir.specs.Held.{value_slots}
 use Rattle.hir.specs.Limits.{Within}
-use Rattle.hir.specs.Options.{bind, part}
-use Rattle.hir.specs.Tree.{Op, Val, Instr, Instrs}
+use Rattle.hir.specs.Options.{part}
 use Rattle.hir.proofs.Grow.{grows_same, values_same, values_more, part_at, part_grows}
 use Rattle.format.specs.declared.fault.FileFault.{FileFault}
 use Rattle.format.specs.Parse.{Cursor, Read, onto, word, below, times, listed, place, payload, op}
 use Rattle.load.specs.Values.{ValueRoom, ValueStep, ValueIn, PlacesIn, places_in}
 use Rattle.load.proofs.Iterate.{Repeats, many_snoc, many_stop}
-use Rattle.load.proofs.Later.{ok_ok, within_same, within_more, word_later, below_later, payload_later, place_later, place_counted}
+use Rattle.load.proofs.Later.{within_same, within_more, word_later, below_later, payload_later, place_later, place_counted}
 
 -- ---- steps
 pub step_later : {u v : Used} (a : ValueArena) → Within u v → ValueStep a a u v

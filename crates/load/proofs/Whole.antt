@@ -1,5 +1,5 @@
 -- The length of a file, and what loaded tables owe. Assumes nothing.
-use Rattle.std.proofs.Common.{◌≡◌, ℕ, ◌%◌, ◌<◌, ◌≤◌, true, cond, leb, List, length, Err, sym, refl, ap, ◌∙◌, subst, eq-eqb, ne_eqb, le-leb}
+use Rattle.std.proofs.Common.{◌≡◌, ℕ, ◌%◌, ◌<◌, ◌≤◌, true, cond, leb, List, length, Err, sym, ap, ◌∙◌, subst, eq-eqb, ne_eqb, le-leb}
 use borrow.Author.Tests.{lt-leb}
 use Rattle.hir.specs.declared.used.Used.{Used}
 use Rattle.hir.specs.Limits.{Within, within}

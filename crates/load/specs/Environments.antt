@@ -1,9 +1,8 @@
 -- What the reading of identifiers and scopes leaves in the environment. Assumes nothing.
-use Rattle.std.specs.Prelude.{◌≡◌, ℕ, ◌+◌, ◌≤◌, Bool, true, false, List, [], ◌∷◌, ◌++◌, length, Ok, vec_items, vec_len}
+use Rattle.std.specs.Prelude.{◌≡◌, ℕ, ◌≤◌, Bool, true, false, List, [], ◌∷◌, ◌++◌, length, Ok, vec_items, vec_len}
 use Rattle.hir.specs.declared.environment.Declared.{Declared}
 use Rattle.hir.specs.declared.environment.Environment.{Environment}
 use Rattle.hir.specs.declared.environment.Identifier.{Identifier}
-use Rattle.hir.specs.declared.environment.ReactiveScope.{ReactiveScope}
 use Rattle.hir.specs.declared.environment.ReactiveScopeDeclaration.{ReactiveScopeDeclaration}
 use Rattle.hir.specs.declared.used.Used.{Used}
 use Rattle.hir.specs.Held.{owned, scopes_from}

@@ -8,7 +8,7 @@ use Rattle.hir.specs.Decode.{root_of}
 use Rattle.hir.specs.Held.{held, slots}
 use Rattle.hir.specs.Limits.{Within, limits}
 use Rattle.hir.specs.Sizes.{sizes, none}
-use Rattle.hir.specs.Tree.{Block, Function}
+use Rattle.hir.specs.Tree.{Block}
 use Rattle.format.specs.declared.fault.FileFault.{FileFault}
 use Rattle.format.specs.Parse.{Cursor, to_end, pair, section, counters, every, identifier, scope_info, block, parse}
 use Rattle.load.specs.Environments.{infos}

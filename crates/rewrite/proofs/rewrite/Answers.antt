@@ -1,5 +1,3 @@
-use Rattle.std.proofs.Common.{ℕ, ◌<◌, List}
-use Rattle.std.specs.List.{AllByRecursion as All}
 use Rattle.rewrite.proofs.Same.{all_bytes, written_back, kept_short}
 use Rattle.rewrite.proofs.rewrite.Goals as goal
 

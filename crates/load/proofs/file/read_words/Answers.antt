@@ -1,4 +1,4 @@
-use Rattle.std.proofs.Common.{vec_items, refl, ap, ◌∙◌, arith}
+use Rattle.std.proofs.Common.{vec_items, ap, ◌∙◌, arith}
 use Rattle.std.proofs.lemmas.Result.{err_from_is_err_and, MatchResult-weaker}
 use Rattle.format.specs.Words.{words}
 use Rattle.load.proofs.FileSteps

@@ -1,4 +1,3 @@
-use Rattle.std.proofs.Common.{arith}
 use Rattle.std.proofs.lemmas.Result.{err_from_is_err_and}
 use Rattle.load.proofs.ValueSteps.{places_none, places_after, places_stop, place_room}
 use Rattle.load.proofs.operations.add_places.Goals as goal

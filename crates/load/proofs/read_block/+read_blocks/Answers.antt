@@ -6,7 +6,7 @@ use Rattle.load.specs.Blocks.{term_in}
 use Rattle.load.specs.Reads.{cursor}
 use Rattle.load.proofs.BlockRing
 use Rattle.load.proofs.BlockRows
-use Rattle.load.proofs.BlockSteps.{room_later, room_step, room_after}
+use Rattle.load.proofs.BlockSteps.{room_later, room_after}
 use Rattle.load.proofs.Later.{word_later, place_later, option_later, jump_later, leave_later}
 use Rattle.load.proofs.read_block.+read_blocks.Goals as goal
 

@@ -1,5 +1,5 @@
 use Rattle.std.proofs.lemmas.Result.{err_from_is_err_and}
-use Rattle.load.proofs.TableSteps.{declarations_none, declarations_after, declarations_stop, declaration_room}
+use Rattle.load.proofs.TableSteps.{declarations_after, declarations_stop, declaration_room}
 use Rattle.load.proofs.read_tables.read_declarations.Goals as goal
 
 pub returns-in_err-declaration : goal.returns-in_err-declaration

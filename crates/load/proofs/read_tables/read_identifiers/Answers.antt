@@ -1,8 +1,6 @@
-use Rattle.std.proofs.Common.{◌≡◌, false, sym, ◌∙◌, arith}
+use Rattle.std.proofs.Common.{sym, ◌∙◌, arith}
 use Rattle.std.proofs.lemmas.Result.{err_from_is_err_and}
 use Rattle.format.specs.Parse.{identifier}
-use Rattle.format.specs.Words.{words}
-use Rattle.load.specs.Environments.{none_left}
 use Rattle.load.specs.Reads.{cursor}
 use Rattle.load.proofs.Shorter.{identifier_shorter}
 use Rattle.load.proofs.TableSteps.{mid_stop, identifiers_first, identifiers_next, identifier_room}

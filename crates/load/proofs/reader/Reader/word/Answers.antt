@@ -1,4 +1,4 @@
-use Rattle.std.proofs.Common.{◌≡◌, length, refl, ap, ◌∙◌, arith, ltb-false}
+use Rattle.std.proofs.Common.{length, ap, arith, ltb-false}
 use Rattle.std.proofs.lemmas.List.{take_rest}
 use Rattle.format.specs.Words.{words}
 use Rattle.load.proofs.Fronts.{words_first, word_here}
