@@ -1,6 +1,6 @@
 -- Bytes hold words: four to a word, and back. Assumes nothing.
 use Rattle.std.proofs.Common.{◌≡◌, ℕ, ◌+◌, ◌*◌, ◌/◌, ◌%◌, ◌<◌, ◌≤◌, eqb, leb, List, [], ◌∷◌, length, Ok, refl, ap, ◌∙◌, arith, eqb-true, leb-true}
-use Rattle.std.specs.List.{AllByRecursion as All}
+use Rattle.std.specs.List.{AllByRecursion}
 use Rattle.hir.specs.Encode.{encode}
 use Rattle.hir.specs.Tree.{Function}
 use Rattle.format.specs.declared.fault.FileFault.TheVariants.{Length}
@@ -25,7 +25,7 @@ low : (b n : ℕ) → b < 256 → (b + n * 256) % 256 ≡ b
 low b n h = omega arith
 
 -- whole words of bytes give their bytes back
-pub bytes_words : (bs : List ℕ) → All (λ b. b < 256) bs → length bs % 4 ≡ 0 → bytes (words bs) ≡ bs
+pub bytes_words : (bs : List ℕ) → AllByRecursion (λ b. b < 256) bs → length bs % 4 ≡ 0 → bytes (words bs) ≡ bs
 bytes_words [] h e = refl
 bytes_words (a ∷ []) h e = absurd (omega arith)
 bytes_words (a ∷ b ∷ []) h e = absurd (omega arith)
@@ -47,7 +47,7 @@ bytes_words (a ∷ b ∷ c ∷ d ∷ bs) h e =
     λ k. p k ∷ q k ∷ r k ∷ s k ∷ t k
 
 -- words of 32 bits give their words back
-pub words_bytes : (ws : List ℕ) → All (λ w. w < 4294967296) ws → words (bytes ws) ≡ ws
+pub words_bytes : (ws : List ℕ) → AllByRecursion (λ w. w < 4294967296) ws → words (bytes ws) ≡ ws
 words_bytes [] h = refl
 words_bytes (w ∷ ws) h =
     let hw : w < 4294967296 = h.0 in

@@ -1,6 +1,6 @@
 -- What is read fits: depths, evaluation orders and kinds are kept to. Assumes nothing.
 use Rattle.std.proofs.Common.{◌≡◌, ℕ, zero, suc, ◌-◌, ◌<◌, ◌≤◌, max, Bool, true, false, cond, eqb, ltb, leb, List, [], ◌∷◌, take, drop, Ok, Err, sym, refl, subst, arith, ltb-true, eq-eqb, leb-true}
-use Rattle.std.specs.List.{AllByRecursion as All}
+use Rattle.std.specs.List.{AllByRecursion}
 use Rattle.hir.specs.declared.used.Used.{Used}
 use Rattle.hir.specs.Tree.{Val, operation, no_val, some_val, instruction, scope, pruned, break, continue, return, throw, no_block, some_block, Block}
 use Rattle.format.specs.declared.fault.FileFault.{FileFault}
@@ -200,7 +200,7 @@ only_readable ws F e =
     let b = section_kept (block 64) (λ b. (block_depth b ≤ 64) × BlockFits b) (block_kept 64) ws p.e₃ p.e₄ p.u₃ (F.body, p.u₄) p.s₄ in
     record { slots = read_is_within ws F e; depth = b.0; blocks = c.0; types = c.1; ranges = c.2; body = b.1 }
 
-words_wide : (bs : List ℕ) → All (λ b. b < 256) bs → All (λ w. w < 4294967296) (words bs)
+words_wide : (bs : List ℕ) → AllByRecursion (λ b. b < 256) bs → AllByRecursion (λ w. w < 4294967296) (words bs)
 words_wide [] h = tt
 words_wide (a ∷ []) h = tt
 words_wide (a ∷ b ∷ []) h = tt
@@ -217,4 +217,4 @@ only_held bs F h e =
     let w = file_whole bs F e in
     let l = as_long_as_its_bytes bs F e in
     let m = w.most in
-    (only_readable (words bs) F w.reads, record { long = omega arith; wide = subst (λ (ws : List ℕ). All (λ w. w < 4294967296) ws) (sym (words_come_back (words bs) F w.reads)) (words_wide bs h) })
+    (only_readable (words bs) F w.reads, record { long = omega arith; wide = subst (λ (ws : List ℕ). AllByRecursion (λ w. w < 4294967296) ws) (sym (words_come_back (words bs) F w.reads)) (words_wide bs h) })

@@ -1,6 +1,6 @@
 -- Each answer to a file tells the first question whose answer is no. Assumes nothing.
 use Rattle.std.proofs.Common.{◌≡◌, ℕ, suc, ◌+◌, ◌%◌, Bool, true, false, cond, eqb, leb, List, [], ◌∷◌, length, get_or, Some, None, Ok, Err, Result, sym, refl, ap, ◌∙◌, subst, arith, eq-eqb, eqb-true, le-leb, leb-true}
-use Rattle.std.specs.List.{AllByRecursion as All}
+use Rattle.std.specs.List.{AllByRecursion}
 use Rattle.hir.specs.Encode.{encode}
 use Rattle.hir.specs.Sizes.{none}
 use Rattle.hir.specs.Tree.{Function}
@@ -75,7 +75,7 @@ module _ (ws : List ℕ) where
       and_then_late 8 (length ws) (section (block 64) ws end₃ end₄ s.1) _ (section_late (block 64) (block_lies 64) ws end₃ end₄ s.1 (omega arith) (omega arith) (omega arith)) (λ b. tt))))
 
 -- without a no each test is yes, the last one too
-all_yes : (k : ℕ) (bs : List Bool) → first_no k bs ≡ None → All (λ b. b ≡ true) bs
+all_yes : (k : ℕ) (bs : List Bool) → first_no k bs ≡ None → AllByRecursion (λ b. b ≡ true) bs
 all_yes k [] e = tt
 all_yes k (true ∷ bs) e = (refl, all_yes (suc k) bs e)
 all_yes k (false ∷ bs) e = absurd (let z : ◌≡◌ {A = ℕ} 0 1 = cc in omega arith)

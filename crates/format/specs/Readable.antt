@@ -1,6 +1,6 @@
 -- The functions whose file is read: what the words and the tree are held to. Assumes nothing.
 use Rattle.std.specs.Prelude.{◌≡◌, ℕ, ◌<◌, ◌≤◌, List, length, Ok}
-use Rattle.std.specs.List.{AllByRecursion as All}
+use Rattle.std.specs.List.{AllByRecursion}
 use Rattle.hir.specs.Encode.{encode}
 use Rattle.hir.specs.Limits.{Within, limits}
 use Rattle.hir.specs.Sizes.{sizes}
@@ -91,7 +91,7 @@ pub record Readable (F : Function) : Type 0 where
 -- and whose file holds them: at most 65,536 bytes, each word of 32 bits
 pub record Holds (F : Function) : Type 0 where
   pub long : length (encode F) ≤ 16384
-  pub wide : All (λ w. w < 4294967296) (encode F)
+  pub wide : AllByRecursion (λ w. w < 4294967296) (encode F)
 
 -- what is written of such a function is read as that function
 abbrev pub WordsAreRead : Type 0
@@ -105,4 +105,4 @@ abbrev pub OnlyReadable : Type 0
 OnlyReadable = (ws : List ℕ) (F : Function) → parse ws ≡ Ok F → Readable F
 
 abbrev pub OnlyHeld : Type 0
-OnlyHeld = (bs : List ℕ) (F : Function) → All (λ b. b < 256) bs → parse_file bs ≡ Ok F → Readable F × Holds F
+OnlyHeld = (bs : List ℕ) (F : Function) → AllByRecursion (λ b. b < 256) bs → parse_file bs ≡ Ok F → Readable F × Holds F

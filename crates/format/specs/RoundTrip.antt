@@ -1,6 +1,6 @@
 -- What is promised of a file that is read. Assumes nothing.
 use Rattle.std.specs.Prelude.{◌≡◌, ℕ, ◌<◌, List, Ok}
-use Rattle.std.specs.List.{AllByRecursion as All}
+use Rattle.std.specs.List.{AllByRecursion}
 use Rattle.hir.specs.declared.environment.Counters.{Counters}
 use Rattle.hir.specs.declared.environment.Identifier.{Identifier}
 use Rattle.hir.specs.declared.used.Used.{Used}
@@ -17,7 +17,7 @@ WordsComeBack = (ws : List ℕ) (F : Function) → parse ws ≡ Ok F → encode 
 
 -- and as the same bytes
 abbrev pub BytesComeBack : Type 0
-BytesComeBack = (bs : List ℕ) (F : Function) → All (λ b. b < 256) bs → parse_file bs ≡ Ok F → bytes (encode F) ≡ bs
+BytesComeBack = (bs : List ℕ) (F : Function) → AllByRecursion (λ b. b < 256) bs → parse_file bs ≡ Ok F → bytes (encode F) ≡ bs
 
 -- the slots counted over its sections are those that its function takes, and are within the limits
 pub record Counted (F : Function) (u : Used) : Type 0 where

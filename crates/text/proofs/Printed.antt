@@ -2,7 +2,7 @@
 -- Positions only matter to a fault, so each step says that there is one to go on from.
 use Rattle.std.proofs.Common.{◌≡◌, ℕ, ◌+◌, ◌-◌, ◌*◌, ◌/◌, ◌%◌, ◌<◌, ◌≤◌, true, false, cond, leb, List, [], ◌∷◌, ◌++◌, Ok, Err, decimal, Result, sym, refl, ap, ◌∙◌, append_assoc, arith}
 use Rattle.std.specs.Char.{is_ascii_digit, is_ascii_whitespace}
-use Rattle.std.specs.List.{AllByRecursion as All}
+use Rattle.std.specs.List.{AllByRecursion}
 use Rattle.std.proofs.lemmas.Fmt.{decimal_by_steps}
 use Rattle.std.proofs.lemmas.Bool.Decides.{nat_tests}
 use Rattle.text.specs.declared.character.Kind.TheVariants.{Digit, White, Other}
@@ -76,7 +76,7 @@ pub record Passed (ws : List ℕ) (s : State) (at : Position) (text rest : List 
   pub same : said_from s at (text ++ rest) ≡ onto ws (said_from Between to rest)
 
 abbrev Small : List ℕ → Type 0
-Small ws = All (λ w. w < 4294967296) ws
+Small ws = AllByRecursion (λ w. w < 4294967296) ws
 
 -- the rest of a line, behind a word
 tail_passes : (n : ℕ) (ws : List ℕ) → Small ws → (from at : Position) (rest : List ℕ) → Passed (n ∷ ws) (Word n from) at (spaced ws ++ 10 ∷ []) rest

@@ -1,7 +1,7 @@
 -- The sections that the pairs of a file name, one after another behind the pairs, are the file's words.
 -- So the lines that show a file say its words again.
 use Rattle.std.proofs.Common.{◌≡◌, ℕ, ◌+◌, ◌*◌, ◌<◌, List, [], ◌∷◌, ◌++◌, length, get_or, take, drop, Ok, sym, ap, ◌∙◌, append-nil, arith, length-drop, take-append-drop, take_all, drop-drop}
-use Rattle.std.specs.List.{AllByRecursion as All}
+use Rattle.std.specs.List.{AllByRecursion}
 use Rattle.std.proofs.ByRecursion.{All-take, All-drop}
 use Rattle.hir.specs.Tree.{Function}
 use Rattle.format.specs.Parse.{parse}
@@ -18,14 +18,14 @@ use Rattle.text.proofs.Printed.{line_passes}
 
 -- words of 32 bits
 abbrev Small : List ℕ → Type 0
-Small ws = All (λ w. w < 4294967296) ws
+Small ws = AllByRecursion (λ w. w < 4294967296) ws
 
 -- as are those of a part
 small_part : (i n : ℕ) (ws : List ℕ) → Small ws → Small (take n (drop i ws))
 small_part i n ws h = All-take (λ w. w < 4294967296) n (drop i ws) (All-drop (λ w. w < 4294967296) i ws h)
 
 -- and the words of bytes
-words_small : (bs : List ℕ) → All (λ b. b < 256) bs → Small (words bs)
+words_small : (bs : List ℕ) → AllByRecursion (λ b. b < 256) bs → Small (words bs)
 words_small [] h = tt
 words_small (a ∷ []) h = tt
 words_small (a ∷ b ∷ []) h = tt

@@ -1,6 +1,6 @@
 -- What is promised of the lines that show a file: they say its words again, and those are its bytes. Assumes nothing.
 use Rattle.std.specs.Prelude.{◌≡◌, ℕ, ◌<◌, List, Ok}
-use Rattle.std.specs.List.{AllByRecursion as All}
+use Rattle.std.specs.List.{AllByRecursion}
 use Rattle.hir.specs.Tree.{Function}
 use Rattle.format.specs.Parse.{parse_file}
 use Rattle.format.specs.Words.{words, bytes}
@@ -13,4 +13,4 @@ pub record Again (bs : List ℕ) : Type 0 where
 
 -- of every file that can be read
 abbrev pub ShownIsReadAgain : Type 0
-ShownIsReadAgain = (bs : List ℕ) (F : Function) → All (λ b. b < 256) bs → parse_file bs ≡ Ok F → Again bs
+ShownIsReadAgain = (bs : List ℕ) (F : Function) → AllByRecursion (λ b. b < 256) bs → parse_file bs ≡ Ok F → Again bs
