@@ -8,6 +8,6 @@ here=$(cd "$(dirname "$0")" && pwd)
 root=$(dirname "$here")
 work=$(mktemp -d)
 rustc --edition 2021 -C opt-level=3 -C panic=abort -o "$work/run" "$here/run.rs"
-(cd "$root" && rt check measure_run >/dev/null)
-"$work/run" "$root/target/bin/measure_run" "$work"
+(cd "$root/crates/measure_run" && rt run -- data/one_return.fn 0 0 >/dev/null 2>&1)
+"$work/run" "$root/crates/measure_run/out/measure_run" "$work"
 rm -rf "$work"

@@ -127,10 +127,10 @@ counters_words c = c.blocks ∷ c.types ∷ c.ranges ∷ []
 -- ---- the file: four pairs of offset and length, then the sections without gaps
 abbrev pub sections : List ℕ → List ℕ → List ℕ → List ℕ → List ℕ
 sections cs is ss bs =
-    let at-is : ℕ = 8 + length cs in
-    let at-ss : ℕ = at-is + length is in
-    let at-bs : ℕ = at-ss + length ss in
-    8 ∷ length cs ∷ at-is ∷ length is ∷ at-ss ∷ length ss ∷ at-bs ∷ length bs ∷ (cs ++ (is ++ (ss ++ bs)))
+    let at_is : ℕ = 8 + length cs in
+    let at_ss : ℕ = at_is + length is in
+    let at_bs : ℕ = at_ss + length ss in
+    8 ∷ length cs ∷ at_is ∷ length is ∷ at_ss ∷ length ss ∷ at_bs ∷ length bs ∷ (cs ++ (is ++ (ss ++ bs)))
 
 unfoldable pub encode : Function → List ℕ
 encode F =

@@ -101,13 +101,13 @@ module _ (ws : List ℕ) where
     pub file_in : {a b f g : Environment} {m : Arena} {root : Range} {u v w x : Used} → CountersRead a b ws 8 e₁ u → IdentifiersRead b f ws e₁ e₂ u v → ScopesRead f g ws e₂ e₃ v w → BodyRead m ws e₃ e₄ w root x → FileIn g m ws root x
     unfolding held
     file_in {a} {b} {f} {g} {m} {root} {u} {v} {w} {x} c i s t =
-        let counters-are : section counters ws 8 e₁ none ≡ Ok (g.counters, u) = c.parsed ∙ ap (λ k. Ok (k, u)) (sym (s.counters ∙ i.counters)) in
-        let identifiers-are : section (every identifier) ws e₁ e₂ u ≡ Ok (vec_items g.identifiers, v) = i.parsed ∙ ap (λ k. Ok (vec_items k, v)) (sym s.identifiers) in
+        let counters_are : section counters ws 8 e₁ none ≡ Ok (g.counters, u) = c.parsed ∙ ap (λ k. Ok (k, u)) (sym (s.counters ∙ i.counters)) in
+        let identifiers_are : section (every identifier) ws e₁ e₂ u ≡ Ok (vec_items g.identifiers, v) = i.parsed ∙ ap (λ k. Ok (vec_items k, v)) (sym s.identifiers) in
         let same : ◌≡◌ {A = Function} (record { counters = g.counters; identifiers = vec_items g.identifiers; scopes = infos g; body = t.tree }) (held g m root) =
         ap (λ o. record { counters = g.counters; identifiers = vec_items g.identifiers; scopes = infos g; body = unwrap_or o nil }) (sym t.stands) in
-        let counted = sections_count ws e₁ e₂ e₃ e₄ (g.counters, u) (vec_items g.identifiers, v) (infos g, w) (t.tree, x) counters-are identifiers-are s.parsed t.parsed in
+        let counted = sections_count ws e₁ e₂ e₃ e₄ (g.counters, u) (vec_items g.identifiers, v) (infos g, w) (t.tree, x) counters_are identifiers_are s.parsed t.parsed in
         record {
-          parsed = parse_ok counters-are identifiers-are s.parsed t.parsed ∙ ap Ok same;
+          parsed = parse_ok counters_are identifiers_are s.parsed t.parsed ∙ ap Ok same;
           rooted = ap is_some t.stands;
           counted = counted.slots ∙ ap sizes same;
           within = t.within;

@@ -4,20 +4,21 @@
 mod packing;
 
 use crate::packing::pack;
-use anyhow::anyhow;
+use std::io;
 use std::io::{Read, Write};
+use std::process::ExitCode;
 
-fn main(rt: HostRuntime) -> anyhow::Result<()> {
+fn main(rt: HostRuntime) -> io::Result<ExitCode> {
     let mut text = Vec::new(rt.alloc());
     rt.stdin().read_to_end(&mut text)?;
     match pack(rt.alloc(), text.as_slice()) {
         Ok(bytes) => {
             rt.stdout().write_all(bytes.as_slice())?;
-            Ok(())
+            Ok(ExitCode::SUCCESS)
         }
         Err(fault) => {
             eprintln!(rt; "{fault}")?;
-            Err(anyhow!("no file is written"))
+            Ok(ExitCode::FAILURE)
         }
     }
 }

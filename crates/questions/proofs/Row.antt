@@ -37,21 +37,21 @@ left_next xs r i x within h at =
     ap₂ take m (drop_more xs (r.start + i) x l ∙ ap₂ (λ y z. y ∷ drop z xs) (sym at) k)
 
 -- an entry x stands for `one x`, a row for `many` of it: the items in order, put together by `join`
-pub record Rows {X Y Ys : Type 0} (one : X → Option Y) (many : List X → Option Ys) (lines-one : Y → List Line) (lines : Ys → List Line) : Type 0 where
+pub record Rows {X Y Ys : Type 0} (one : X → Option Y) (many : List X → Option Ys) (lines_one : Y → List Line) (lines : Ys → List Line) : Type 0 where
   pub none : Ys
   pub join : X → Y → Ys → Ys
   pub many_none : many [] ≡ Some none
   pub many_more : (x : X) (xs : List X) → many (x ∷ xs) ≡ bind (one x) (λ y. bind (many xs) (λ ys. Some (join x y ys)))
   pub lines_none : lines none ≡ []
-  pub lines_more : (x : X) (y : Y) (ys : Ys) → lines (join x y ys) ≡ lines-one y ++ lines ys
+  pub lines_more : (x : X) (y : Y) (ys : Ys) → lines (join x y ys) ≡ lines_one y ++ lines ys
 
-module _ {X Y Ys : Type 0} (one : X → Option Y) (many : List X → Option Ys) (lines-one : Y → List Line) (lines : Ys → List Line) (xs : List X) (r : Range) where
+module _ {X Y Ys : Type 0} (one : X → Option Y) (many : List X → Option Ys) (lines_one : Y → List Line) (lines : Ys → List Line) (xs : List X) (r : Range) where
   pub record RowLeft (f : Findings) (seen : List Bool) (g : Findings) (marks : List Bool) (i : ℕ) : Type 0 where
     pub rest : Ys
     pub is : many (left xs r i) ≡ Some rest
     pub same : (x : Ys) → bind (part xs r) many ≡ Some x → passed (lines x) (notes f seen) ≡ passed (lines rest) (notes g marks)
 
-module _ {X Y Ys : Type 0} (one : X → Option Y) (many : List X → Option Ys) (lines-one : Y → List Line) (lines : Ys → List Line) (rows : Rows one many lines-one lines) (xs : List X) (r : Range) (f : Findings) (seen : List Bool) (all : Decodes (bind (part xs r) many)) where
+module _ {X Y Ys : Type 0} (one : X → Option Y) (many : List X → Option Ys) (lines_one : Y → List Line) (lines : Ys → List Line) (rows : Rows one many lines_one lines) (xs : List X) (r : Range) (f : Findings) (seen : List Bool) (all : Decodes (bind (part xs r) many)) where
   pub row_within : r.start + r.count ≤ length xs
   row_within = let b = bound (part xs r) many _ all.is in (part_row xs r b.0 b.1).0
 
@@ -60,7 +60,7 @@ module _ {X Y Ys : Type 0} (one : X → Option Y) (many : List X → Option Ys) 
       let b = bound (part xs r) many _ all.is in
       ap many (part_row xs r b.0 b.1).1 ∙ b.2
 
-  pub row_begin : RowLeft one many lines-one lines xs r f seen f seen 0
+  pub row_begin : RowLeft one many lines_one lines xs r f seen f seen 0
   row_begin = record { rest = all.what; is = ap many (left_all xs r) ∙ row_decodes; same = λ x e. ap (λ y. passed (lines y) (notes f seen)) (some_some (sym e ∙ all.is)) }
 
   next_parts : (i : ℕ) (x : X) (rest : Ys) → i < r.count → x ≡ get_or xs (r.start + i) x → many (left xs r i) ≡ Some rest → (y : Y) × (ys : Ys) × (one x ≡ Some y) × (many (left xs r (i + 1)) ≡ Some ys) × (rows.join x y ys ≡ rest)
@@ -70,10 +70,10 @@ module _ {X Y Ys : Type 0} (one : X → Option Y) (many : List X → Option Ys) 
       let c = bound (many (left xs r (i + 1))) _ rest b.2 in
       (b.0, c.0, b.1, c.1, some_some c.2)
 
-  pub row_next : (i : ℕ) (x : X) (g : Findings) (marks : List Bool) → i < r.count → x ≡ get_or xs (r.start + i) x → RowLeft one many lines-one lines xs r f seen g marks i → Decodes (one x)
+  pub row_next : (i : ℕ) (x : X) (g : Findings) (marks : List Bool) → i < r.count → x ≡ get_or xs (r.start + i) x → RowLeft one many lines_one lines xs r f seen g marks i → Decodes (one x)
   row_next i x g marks h at l = let p = next_parts i x l.rest h at l.is in record { what = p.0; is = p.2 }
 
-  pub row_again : (i : ℕ) (x : X) (g : Findings) (marks : List Bool) (n : Findings) (after : List Bool) → i < r.count → x ≡ get_or xs (r.start + i) x → RowLeft one many lines-one lines xs r f seen g marks i → Outer (one x) lines-one g marks n after → RowLeft one many lines-one lines xs r f seen n after (i + 1)
+  pub row_again : (i : ℕ) (x : X) (g : Findings) (marks : List Bool) (n : Findings) (after : List Bool) → i < r.count → x ≡ get_or xs (r.start + i) x → RowLeft one many lines_one lines xs r f seen g marks i → Outer (one x) lines_one g marks n after → RowLeft one many lines_one lines xs r f seen n after (i + 1)
   row_again i x g marks n after h at l done =
       let p = next_parts i x l.rest h at l.is in
       record {
@@ -81,10 +81,10 @@ module _ {X Y Ys : Type 0} (one : X → Option Y) (many : List X → Option Ys) 
         is = p.3;
         same = λ y e.
             l.same y e ∙ ap (λ z. passed (lines z) (notes g marks)) (sym p.4) ∙ ap (λ ls. passed ls (notes g marks)) (rows.lines_more x p.0 p.1)
-            ∙ pass_then (lines-one p.0) (lines p.1) (notes g marks) (notes n after) (done.by p.0 p.2) refl;
+            ∙ pass_then (lines_one p.0) (lines p.1) (notes g marks) (notes n after) (done.by p.0 p.2) refl;
       }
 
-  pub row_end : (i : ℕ) (g : Findings) (marks : List Bool) → r.count ≤ i → RowLeft one many lines-one lines xs r f seen g marks i → Outer (bind (part xs r) many) lines f seen g marks
+  pub row_end : (i : ℕ) (g : Findings) (marks : List Bool) → r.count ≤ i → RowLeft one many lines_one lines xs r f seen g marks i → Outer (bind (part xs r) many) lines f seen g marks
   row_end i g marks h l =
       let last : l.rest ≡ rows.none = sym (some_some (sym (ap many (left_none xs r i h) ∙ rows.many_none) ∙ l.is)) in
       record { by = λ x e. l.same x e ∙ ap (λ z. passed (lines z) (notes g marks)) last ∙ ap (λ ls. passed ls (notes g marks)) rows.lines_none }

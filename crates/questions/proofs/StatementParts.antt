@@ -71,7 +71,7 @@ pub term_pass : (a : Slots) (block : Range → Option Block) (p : Parts) (x : Te
     → passed (labelled_lines B m s x) (notes f s₀) ≡ notes f₅ s₅
 term_pass a block p x B m s i o l f {n} {f₁} {f₂} {f₃} {f₄} {f₅} {s₀} {s₁} {s₃} {s₄} {s₅} t own eline enote ei led valued entered handled cased =
     let own_is = own.of t.values in
-    let line-is : term_line B x m s ≡ l = sym (eline ∙ ap (parts_line B p m s (row_cases a p)) own_is ∙ line_parts a block p x B m s t) in
+    let line_is : term_line B x m s ≡ l = sym (eline ∙ ap (parts_line B p m s (row_cases a p)) own_is ∙ line_parts a block p x B m s t) in
     let L = opt_block_lines B t.leading.what i in
     let V = values_lines B t.values in
     let E = opt_block_lines B t.first.what i in
@@ -79,7 +79,7 @@ term_pass a block p x B m s i o l f {n} {f₁} {f₂} {f₃} {f₄} {f₅} {s₀
     let C = cases_lines B t.cases.what i in
     let inner : term_lines B x (mark m) (labelled (mark_inside x m) s) ≡ L ++ (V ++ (E ++ (H ++ C))) =
     t.lines B m s ∙ ap (λ w. opt_block_lines B t.leading.what w ++ (values_lines B t.values ++ (opt_block_lines B t.first.what w ++ (opt_block_lines B t.other.what w ++ cases_lines B t.cases.what w)))) (sym ei) in
-    ap (λ w. passed (term_lines B x (mark m) (labelled (mark_inside x m) s)) (notes (noted f w true) s₀)) line-is
+    ap (λ w. passed (term_lines B x (mark m) (labelled (mark_inside x m) s)) (notes (noted f w true) s₀)) line_is
     ∙ ap₂ (λ ls g. passed ls (notes g s₀)) inner (sym enote)
     ∙ pass_then L (V ++ (E ++ (H ++ C))) (notes n s₀) (notes f₁ s₁) (led.by t.leading.what t.leading.is)
     (pass_then V (E ++ (H ++ C)) (notes f₁ s₁) (notes f₂ s₁) (valued.by t.values s₁)

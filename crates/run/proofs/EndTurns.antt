@@ -116,24 +116,24 @@ weight_positive (catches p c) = omega arith
 
 module _ {S : Type 0} (H : Meaning S) (B : ℕ) (rec : ℕ → Option ℕ) (a : Slots) (W : ℕ) (x : Exit) where
   passes : (f : Frame) (t : Task) (A : Around) (z n v : ℕ) → Means a B W z n v f t → takes f ≡ false → (x ≡ E.Normal → ⊥) → (s : State S) → act H B rec A t (result x s) ≡ result x s
-  passes (F.Block r d) t A z n v m e no-normal s = ap (λ (u : Task). act H B rec A u (result x s)) m.1 ∙ bind_passes x s _ no-normal
-  passes (F.Statement k d) t A z n v m e no-normal s = ap (λ (u : Task). act H B rec A u (result x s)) m.1 ∙ bind_passes x s _ no-normal
-  passes (F.Value k d) t A z n v m e no-normal s = ap (λ (u : Task). act H B rec A u (result x s)) m.1 ∙ bind_passes x s _ no-normal
-  passes (F.Assigns p) t A z n v m e no-normal s = ap (λ (u : Task). act H B rec A u (result x s)) m ∙ bind_passes x s _ no-normal
-  passes (F.Instructions r d) t A z n v m e no-normal s = ap (λ (u : Task). act H B rec A u (result x s)) m.1 ∙ bind_passes x s _ no-normal
-  passes (F.AfterLeft p k d) t A z n v m e no-normal s = ap (λ (u : Task). act H B rec A u (result x s)) m.1 ∙ bind_passes x s _ no-normal
-  passes (F.AfterTest k l d) t A z n v m e no-normal s = ap (λ (u : Task). act H B rec A u (result x s)) m.2 ∙ bind_passes x s _ no-normal
-  passes (F.Leaves y) t A z n v m e no-normal s = ap (λ (u : Task). act H B rec A u (result x s)) m ∙ bind_passes x s _ no-normal
-  passes (F.EndsLabel l) t A z n v m e no-normal s = absurd (true≢false e)
-  passes (F.EndsLoop l) t A z n v m e no-normal s = absurd (true≢false e)
-  passes (F.EndsSwitch l) t A z n v m e no-normal s = absurd (true≢false e)
-  passes (F.EndsRound l) t A z n v m e no-normal s = absurd (true≢false e)
-  passes (F.Starts l b d) t A z n v m e no-normal s = ap (λ (u : Task). act H B rec A u (result x s)) m.1 ∙ bind_passes x s _ no-normal
-  passes (F.Rounds l b d) t A z n v m e no-normal s = ap (λ (u : Task). act H B rec A u (result x s)) m.2 ∙ bind_passes x s _ no-normal
-  passes (F.Tests l b d) t A z n v m e no-normal s = ap (λ (u : Task). act H B rec A u (result x s)) m.1 ∙ bind_passes x s _ no-normal
-  passes (F.Selects c b d) t A z n v m e no-normal s = ap (λ (u : Task). act H B rec A u (result x s)) m.2 ∙ bind_passes x s _ no-normal
-  passes (F.Cases r d) t A z n v m e no-normal s = ap (λ (u : Task). act H B rec A u (result x s)) m.1 ∙ bind_passes x s _ no-normal
-  passes (F.Catches p r d) t A z n v m e no-normal s = absurd (true≢false e)
+  passes (F.Block r d) t A z n v m e no_normal s = ap (λ (u : Task). act H B rec A u (result x s)) m.1 ∙ bind_passes x s _ no_normal
+  passes (F.Statement k d) t A z n v m e no_normal s = ap (λ (u : Task). act H B rec A u (result x s)) m.1 ∙ bind_passes x s _ no_normal
+  passes (F.Value k d) t A z n v m e no_normal s = ap (λ (u : Task). act H B rec A u (result x s)) m.1 ∙ bind_passes x s _ no_normal
+  passes (F.Assigns p) t A z n v m e no_normal s = ap (λ (u : Task). act H B rec A u (result x s)) m ∙ bind_passes x s _ no_normal
+  passes (F.Instructions r d) t A z n v m e no_normal s = ap (λ (u : Task). act H B rec A u (result x s)) m.1 ∙ bind_passes x s _ no_normal
+  passes (F.AfterLeft p k d) t A z n v m e no_normal s = ap (λ (u : Task). act H B rec A u (result x s)) m.1 ∙ bind_passes x s _ no_normal
+  passes (F.AfterTest k l d) t A z n v m e no_normal s = ap (λ (u : Task). act H B rec A u (result x s)) m.2 ∙ bind_passes x s _ no_normal
+  passes (F.Leaves y) t A z n v m e no_normal s = ap (λ (u : Task). act H B rec A u (result x s)) m ∙ bind_passes x s _ no_normal
+  passes (F.EndsLabel l) t A z n v m e no_normal s = absurd (true≢false e)
+  passes (F.EndsLoop l) t A z n v m e no_normal s = absurd (true≢false e)
+  passes (F.EndsSwitch l) t A z n v m e no_normal s = absurd (true≢false e)
+  passes (F.EndsRound l) t A z n v m e no_normal s = absurd (true≢false e)
+  passes (F.Starts l b d) t A z n v m e no_normal s = ap (λ (u : Task). act H B rec A u (result x s)) m.1 ∙ bind_passes x s _ no_normal
+  passes (F.Rounds l b d) t A z n v m e no_normal s = ap (λ (u : Task). act H B rec A u (result x s)) m.2 ∙ bind_passes x s _ no_normal
+  passes (F.Tests l b d) t A z n v m e no_normal s = ap (λ (u : Task). act H B rec A u (result x s)) m.1 ∙ bind_passes x s _ no_normal
+  passes (F.Selects c b d) t A z n v m e no_normal s = ap (λ (u : Task). act H B rec A u (result x s)) m.2 ∙ bind_passes x s _ no_normal
+  passes (F.Cases r d) t A z n v m e no_normal s = ap (λ (u : Task). act H B rec A u (result x s)) m.1 ∙ bind_passes x s _ no_normal
+  passes (F.Catches p r d) t A z n v m e no_normal s = absurd (true≢false e)
 
 module _ {S : Type 0} (H : Meaning S) (B : ℕ) (rec : ℕ → Option ℕ) (a : Slots) (W : ℕ) (w : Result S) (fs : List Frame) {x : Exit}
     {h : S} {σ : List ℕ} {given steps entries : ℕ} {recorded : Bool} where
@@ -205,9 +205,9 @@ module _ {S : Type 0} (H : Meaning S) (B : ℕ) (rec : ℕ → Option ℕ) (a : 
 
   pub on_passed : (f : Frame) → takes f ≡ false → (x ≡ E.Normal → ⊥) → Leads H B rec a W w (fs ++ f ∷ []) x h σ given steps entries recorded
       → Next H B rec a W w fs f steps fs x h σ given steps entries recorded
-  on_passed f e no-normal ld =
+  on_passed f e no_normal ld =
       let o = opened H B rec a W w {fs = fs} {f = f} ld in
-      passed f o (weight_positive o.task) (passes H B rec a W x f o.task (around o.kont) steps (length fs) (weights o.kont) o.means e no-normal (state_of h σ given steps entries recorded))
+      passed f o (weight_positive o.task) (passes H B rec a W x f o.task (around o.kont) steps (length fs) (weights o.kont) o.means e no_normal (state_of h σ given steps entries recorded))
 
 -- ---- a frame that pushes others has room for them
 abbrev pub Low : ℕ → Frame → Type 0

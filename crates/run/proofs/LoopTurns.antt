@@ -221,7 +221,7 @@ module _ {S : Type 0} (H : Meaning S) (B : ℕ) (rec : ℕ → Option ℕ) (a : 
           let ef : q.1 ≡ suc f' = omega arith in
           let e = iter_step (round_of H B rec y m (around o.kont)) q.1 f' (state_of h σ given steps entries recorded) ef (lt-ltb steps B b) in
           let dec : loop_at d a l ≡ Some y = q.3 ∙ ap (λ (z : Loop). Some z) p.2 in
-          let at-round = later a B W steps (suc steps) fs o.kont (omega arith) o.stacked in
+          let at_round = later a B W steps (suc steps) fs o.kont (omega arith) o.stacked in
           paying H B rec a W w o (rounds y m q.1) (q.2 ∙ ap (λ (z : Loop). rounds z m q.1) p.2) _
           (block p.1 ∷ ends_round m ∷ value p.0 ∷ tests y m ∷ rounds y m f' ∷ o.kont) n h σ given entries (
             F.Block r d,
@@ -243,7 +243,7 @@ module _ {S : Type 0} (H : Meaning S) (B : ℕ) (rec : ℕ → Option ℕ) (a : 
                   g,
                   refl,
                   (y, refl, dec, omega arith),
-                  (F.Rounds l m d, fs, refl, (y, f', refl, dec, omega arith, omega arith, wide), at-round),
+                  (F.Rounds l m d, fs, refl, (y, f', refl, dec, omega arith, omega arith, wide), at_round),
                 ),
               ),
             ),
