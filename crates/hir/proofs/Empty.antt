@@ -17,11 +17,11 @@ pub root_empty : (s : Slots) → root_of s at_none ≡ Some nil
 unfolding root_of
 root_empty s = rw (le-leb 0 (length s.entries) (omega arith)) refl
 
-pub held_empty : (e : Environment) (a : Arena) → e.counters ≡ no_counters → vec_items e.identifiers ≡ [] → vec_items e.scopes ≡ [] → held e a at_none ≡ empty
+pub held_empty : (e : Environment) (a : Arena) → e.counters ≡ no_counters → vec_items e.identifiers.vec ≡ [] → vec_items e.scopes.vec ≡ [] → held e a at_none ≡ empty
 unfolding held
 held_empty e a c i s =
-    ap₂ (λ x y. record { counters = x; identifiers = y; scopes = scopes_from 0 (vec_items e.scopes) (vec_items e.declarations); body = unwrap_or (root_of (slots a) at_none) nil }) c i
-    ∙ ap₂ (λ x y. record { counters = no_counters; identifiers = []; scopes = scopes_from 0 x (vec_items e.declarations); body = unwrap_or y nil }) s (root_empty (slots a))
+    ap₂ (λ x y. record { counters = x; identifiers = y; scopes = scopes_from 0 (vec_items e.scopes.vec) (vec_items e.declarations.vec); body = unwrap_or (root_of (slots a) at_none) nil }) c i
+    ∙ ap₂ (λ x y. record { counters = no_counters; identifiers = []; scopes = scopes_from 0 x (vec_items e.declarations.vec); body = unwrap_or y nil }) s (root_empty (slots a))
 
 -- what the invariant of tables asks, of empty ones
 pub empty_rooted : (a : Arena) → is_some (root_of (slots a) at_none) ≡ true

@@ -12,10 +12,10 @@ use Rattle.hir.specs.Decode.{ValueSlots, Slots, root_of}
 use Rattle.hir.specs.Tree.{Block, nil, ScopeInfo, Function}
 
 abbrev pub value_slots : ValueArena → ValueSlots
-value_slots a = record { values = vec_items a.values; instructions = vec_items a.instructions; places = vec_items a.places }
+value_slots a = record { values = vec_items a.values.vec; instructions = vec_items a.instructions.table.vec; places = vec_items a.places.vec }
 
 abbrev pub slots : Arena → Slots
-slots a = record { inner = value_slots a.inner; statements = vec_items a.statements; entries = vec_items a.entries; cases = vec_items a.cases }
+slots a = record { inner = value_slots a.inner; statements = vec_items a.statements.vec; entries = vec_items a.entries.table.vec; cases = vec_items a.cases.table.vec }
 
 -- the declarations in a scope's list
 abbrev pub owned : ℕ → List Declared → List ReactiveScopeDeclaration
@@ -34,7 +34,7 @@ unfoldable pub held : Environment → Arena → Range → Function
 held e a r =
     record {
       counters = e.counters;
-      identifiers = vec_items e.identifiers;
-      scopes = scopes_from 0 (vec_items e.scopes) (vec_items e.declarations);
+      identifiers = vec_items e.identifiers.vec;
+      scopes = scopes_from 0 (vec_items e.scopes.vec) (vec_items e.declarations.vec);
       body = body_held a r;
     }

@@ -1,7 +1,9 @@
 // What the tree refers to by number: identifiers, scopes with their declarations, and the counters.
-ghost use Rattle.std.specs.Prelude.{◌≡◌, ◌≤◌, [], IfOk, vec_len, vec_capacity};
+ghost use Rattle.std.specs.Prelude.{◌≡◌, [], IfOk};
 ghost use Rattle.hir.specs.Tree.{no_counters};
 
+use crate::table::Table;
+use crate::used::{DECLARATIONS, IDENTIFIERS, SCOPES};
 use std::alloc::{AllocError, Global};
 
 // A name's text is the caller's code; that of a promoted one is the N of `#tN`.
@@ -49,7 +51,7 @@ pub struct Declared {
 }
 
 // The next block number, and how many types and mutable ranges there are.
-#[derive(Clone, Copy)]
+#[derive(Clone, Copy, Default)]
 pub struct Counters {
     pub blocks: u32,
     pub types: u32,
@@ -59,26 +61,32 @@ pub struct Counters {
 #[derive(Drop)]
 pub struct Environment {
     pub counters: Counters,
-    pub identifiers: Vec<Identifier>,
-    pub scopes: Vec<ReactiveScope>,
-    pub declarations: Vec<Declared>,
-    ghost room: { (2048 ≤ vec_capacity identifiers) × (256 ≤ vec_capacity scopes) × (1024 ≤ vec_capacity declarations) },
-    ghost within: { (vec_len identifiers ≤ 2048) × (vec_len scopes ≤ 256) × (vec_len declarations ≤ 1024) },
+    pub identifiers: Table<Identifier, IDENTIFIERS>,
+    pub scopes: Table<ReactiveScope, SCOPES>,
+    pub declarations: Table<Declared, DECLARATIONS>,
 }
 
 impl Environment {
     pub fn new(heap: Global) -> Result<Environment, AllocError>
-        ensures { IfOk result (λ e. (e.counters ≡ no_counters) × (e.identifiers.items ≡ []) × (e.scopes.items ≡ []) × (e.declarations.items ≡ [])) }
+        ensures { IfOk result (λ e. (e.counters ≡ no_counters) × (e.identifiers.vec.items ≡ []) × (e.scopes.vec.items ≡ []) × (e.declarations.vec.items ≡ [])) }
     {
         Ok(Environment {
-            counters: Counters {
-                blocks: 0,
-                types: 0,
-                ranges: 0,
-            },
-            identifiers: Vec::with_capacity(heap, 2048)?,
-            scopes: Vec::with_capacity(heap, 256)?,
-            declarations: Vec::with_capacity(heap, 1024)?,
+            counters: Counters::default(),
+            identifiers: Table::new(heap)?,
+            scopes: Table::new(heap)?,
+            declarations: Table::new(heap)?,
         })
+    }
+
+    pub fn clear(&mut self)
+        ensures counters { self.new.counters ≡ no_counters }
+        ensures identifiers { self.new.identifiers.vec.items ≡ [] }
+        ensures scopes { self.new.scopes.vec.items ≡ [] }
+        ensures declarations { self.new.declarations.vec.items ≡ [] }
+    {
+        self.counters = Counters::default();
+        self.identifiers.clear();
+        self.scopes.clear();
+        self.declarations.clear();
     }
 }

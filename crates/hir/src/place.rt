@@ -2,14 +2,14 @@
 
 #[derive(Clone, Copy)]
 pub enum Effect {
-    Unknown,
-    Freeze,
-    Read,
-    Capture,
-    ConditionallyMutateIterator,
-    ConditionallyMutate,
-    Mutate,
-    Store,
+    Unknown = 0,
+    Freeze = 1,
+    Read = 2,
+    Capture = 3,
+    ConditionallyMutateIterator = 4,
+    ConditionallyMutate = 5,
+    Mutate = 6,
+    Store = 7,
 }
 
 // A span is the caller's code for a piece of source text; 0 is none.

@@ -8,6 +8,7 @@ pub struct ReactiveScopeBlock {
     pub instructions: ReactiveBlock,
 }
 
+// Alike, but a type of its own as in the compiler: a pruned block owns no scope.
 #[derive(Clone, Copy)]
 pub struct PrunedReactiveScopeBlock {
     pub scope: u32,

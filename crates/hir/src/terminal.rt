@@ -1,4 +1,6 @@
 // Terminals: what directs control, with the blocks and values inside.
+ghost use Rattle.std.specs.Prelude.{◌≡◌, Some, None, if◌then◌else◌};
+
 use crate::place::Place;
 use crate::range::Range;
 
@@ -7,15 +9,24 @@ pub type ReactiveBlock = Range;
 
 #[derive(Clone, Copy)]
 pub enum ReactiveTerminalTargetKind {
-    Implicit,
-    Labeled,
-    Unlabeled,
+    Implicit = 0,
+    Labeled = 1,
+    Unlabeled = 2,
 }
 
 #[derive(Clone, Copy)]
 pub struct ReactiveLabel {
     pub id: u32,
     pub implicit: bool,
+}
+
+impl ReactiveLabel {
+    // The number that a jump may name; an implicit label has none.
+    pub fn named(self) -> Option<u32>
+        ensures { result ≡ (if self.implicit then None else Some self.id) }
+    {
+        if self.implicit { None } else { Some(self.id) }
+    }
 }
 
 #[derive(Clone, Copy)]

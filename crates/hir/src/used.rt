@@ -1,6 +1,7 @@
 // How many slots of each kind are used.
 
-// An instruction of a sequence is a statement; a place counts wherever it stands.
+// An instruction of a sequence is a statement; a place counts wherever it stands. The limits are no invariant of this type, since
+// whoever makes such counts would owe them; `Tables` and the reader of a load promise them.
 #[derive(Clone, Copy)]
 pub struct Used {
     pub statements: u32,
@@ -12,6 +13,7 @@ pub struct Used {
     pub cases: u32,
 }
 
+// A constant and no `Default`: its value is known wherever it stands, and a default only field by field.
 pub const UNUSED: Used = Used {
     statements: 0,
     values: 0,
@@ -22,7 +24,7 @@ pub const UNUSED: Used = Used {
     cases: 0,
 };
 
-// The limits.
+// The limits. The tables and the counts of a load name them.
 pub const STATEMENTS: u32 = 2048;
 
 pub const VALUES: u32 = 4096;

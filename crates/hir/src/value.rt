@@ -4,12 +4,13 @@ use crate::range::Range;
 
 #[derive(Clone, Copy)]
 pub enum LogicalOperator {
-    Or,
-    And,
-    Coalesce,
+    Or = 0,
+    And = 1,
+    Coalesce = 2,
 }
 
 // Its kind is the number of the case among the 42 of the compiler, its payload the caller's code for the case's other fields.
+// The kind stays a number: nine cases are looked at, and a host is asked by number for all the others.
 #[derive(Clone, Copy)]
 pub struct InstructionValue {
     pub kind: u32,
