@@ -1,12 +1,10 @@
 -- Where no scope has a record, a run enters no recorded scope, and no record returns.
 -- So the counts of a run stay as they were at its beginning.
-use Rattle.std.proofs.Common.{◌≡◌, ℕ, zero, suc, Bool, true, false, List, [], ◌∷◌, Some, None, Option, refl, ap, ◌∙◌, arith}
+use Rattle.std.proofs.Common.{◌≡◌, ℕ, zero, suc, Bool, true, false, List, [], ◌∷◌, Some, None, Option, refl, ap, ◌∙◌, arith, Ok, Err}
 use Rattle.hir.specs.declared.place.Place.{Place}
 use Rattle.hir.specs.declared.terminal.ReactiveTerminalTargetKind.TheVariants.{Implicit, Labeled, Unlabeled}
 use Rattle.hir.specs.Tree.{Op, Val, operation, logical, conditional, sequence, optional, OptVal, no_val, some_val, Instr, instr, Instrs, inil, icons, Stmt, instruction, scope, pruned, terminal, Term, break, continue, return, throw, switch, do_while, while, for, for_of, for_in, if, label, try, Cases, knil, kcons, OptBlock, no_block, some_block, Block, nil, cons, ScopeInfo, Function}
-use Rattle.host.specs.Asked.{asked}
-use Rattle.host.specs.declared.Reply.{Reply}
-use Rattle.host.specs.declared.Reply.TheVariants.{Value, Thrown}
+use Rattle.host.specs.Asked.{asked, Reply}
 use Rattle.semantics.specs.Machine.{Meaning, State, Out, normal, broke, continued, returned, threw, Result, done, spent, stepped, moved, gave, at, last_at, store_all, assign, wrote, branch, bind, handle, map_out, enter, leave, on_reply, ask, test, ask_each, tick, iter}
 use Rattle.semantics.specs.Targets.{mark, nowhere, aim_b}
 use Rattle.semantics.specs.Exec.{Class, loads, declares, stores, asks_each, asks, class, default, recorded_place, records_of, eval_op, eval_v, eval_i, eval_is, eval_o, select, tested, run_s, run_t, run_from, run_o, run_b, begin, within, exec, last}
@@ -73,8 +71,8 @@ module _ {S : Type 0} where
     ask_even kind payload position vs s {k} g = go (H.answer s.host _)
       where
         go : (r : Reply) → Evenly s.entries s.records (on_reply H r (moved s (H.next s.host (asked (record { kind = kind; payload = payload; position = position }) vs))) k)
-        go (Value v) = record { even = (g _).even }
-        go (Thrown v) = record { even = record { entries_same = refl; records_same = refl } }
+        go (Ok v) = record { even = (g _).even }
+        go (Err t) = record { even = record { entries_same = refl; records_same = refl } }
 
     test_even : (payload : ℕ) {y n : State S → Result S} (s : State S) → ((t : State S) → Evenly t.entries t.records (y t)) → ((t : State S) → Evenly t.entries t.records (n t)) → Evenly s.entries s.records (test H payload y n s)
     test_even payload s f g = ask_even 42 payload 0 _ s (λ t. branch_even _ _ _ t (g t) (f t))

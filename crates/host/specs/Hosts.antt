@@ -1,29 +1,29 @@
 -- The two hosts. Assumes nothing.
-use Rattle.std.specs.Prelude.{ℕ, ◌+◌, ◌%◌, ◌^◌, cond, List, [], ◌∷◌, length, nat_lt, slice_index, refl}
-use Rattle.host.specs.Asked.{Asked, Keeps, fixed, or_else, or_stay}
-use Rattle.host.specs.declared.Reply.{Reply}
-use Rattle.host.specs.declared.Reply.TheVariants.{Value, Thrown}
+use Rattle.std.specs.Prelude.{ℕ, ◌+◌, ◌%◌, ◌^◌, List, [], ◌∷◌, Ok, refl}
+use Rattle.host.specs.Asked.{Asked, Reply, thrown, Keeps, fixed, or_else, or_stay}
 
--- what was handed in, and how many answers of it are spent
-pub record Tape : Type 0 where
-  pub all : List ℕ
-  pub spent : ℕ
+-- the first of the answers that are left; 0 is thrown where there is none
+abbrev pub first : List ℕ → Reply
+first [] = thrown 0
+first (x ∷ xs) = Ok x
 
-abbrev pub tape : List ℕ → ℕ → Tape
-tape xs n = record { all = xs; spent = n }
+abbrev pub others : List ℕ → List ℕ
+others [] = []
+others (x ∷ xs) = xs
 
-abbrev pub list_answer : Tape → Asked → Reply
-list_answer s a = or_else (fixed a) (cond (nat_lt s.spent (length s.all)) (Value (slice_index s.all s.spent)) (Thrown 0))
+-- the state of a list host is the list of the answers that are left
+abbrev pub list_answer : List ℕ → Asked → Reply
+list_answer s a = or_else (fixed a) (first s)
 
-abbrev pub list_next : Tape → Asked → Tape
-list_next s a = or_stay (fixed a) s (cond (nat_lt s.spent (length s.all)) (tape s.all (s.spent + 1)) s)
+abbrev pub list_next : List ℕ → Asked → List ℕ
+list_next s a = or_stay (fixed a) s (others s)
 
 abbrev pub sum_from : ℕ → List ℕ → ℕ
 sum_from n [] = n
 sum_from n (x ∷ xs) = sum_from ((n + x) % (2 ^ 32)) xs
 
 abbrev pub number_answer : Unit {0} → Asked → Reply
-number_answer s a = or_else (fixed a) (Value (sum_from a.head.payload a.values))
+number_answer s a = or_else (fixed a) (Ok (sum_from a.head.payload a.values))
 
 abbrev pub number_next : Unit {0} → Asked → Unit {0}
 number_next s a = s

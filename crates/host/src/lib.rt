@@ -2,11 +2,11 @@
 #![tactic(auto)]
 
 ghost use Rattle.std.specs.Prelude.{◌≡◌, ℕ, ◌+◌, ◌-◌, ◌<◌, ◌≤◌, List, length, Some, Option};
-ghost use Rattle.host.specs.declared.Reply.{Reply};
-ghost use Rattle.host.specs.declared.Reply.TheVariants.{Value};
-ghost use Rattle.host.specs.Asked.{Asked, Keeps, asked, fixed, is};
-ghost use Rattle.host.specs.Hosts.{Tape, tape, list_answer, list_keeps, list_next, number_answer, number_keeps, number_next};
+ghost use Rattle.host.specs.Asked.{Asked, Reply, Keeps, asked, fixed};
+ghost use Rattle.host.specs.Hosts.{list_answer, list_keeps, list_next, number_answer, number_keeps, number_next};
 
+// The kind is a number, since a host is asked over whatever joins it to its program: 0 to 41 are those of instructions, 42 asks
+// what a test is worth, and 43 whether a switch's case is meant.
 #[derive(Clone, Copy)]
 pub struct Question {
     pub kind: u32,
@@ -14,11 +14,9 @@ pub struct Question {
     pub position: u32,
 }
 
-#[derive(Clone, Copy)]
-pub enum Reply {
-    Value(u32),
-    Thrown(u32),
-}
+// What a host throws in place of an answer.
+#[derive(Clone, Copy, Debug, PartialEq, Eq, Hash)]
+pub struct Thrown(pub u32);
 
 pub trait Host {
     ghost State: { Type 0 };
@@ -31,56 +29,52 @@ pub trait Host {
 
     ghost keeps: { Keeps answer next };
 
-    fn ask(&mut self, question: Question, values: &[u32]) -> Reply
+    // The values stand beside the question, since they are lent for it alone.
+    fn ask(&mut self, question: Question, values: &[u32]) -> Result<u32, Thrown>
         ensures answers { result ≡ answer (state self.old) (asked question values.now) }
         ensures moves { state self.new ≡ next (state self.old) (asked question values.now) };
 }
 
-// Whether a question is this one, at position 0.
-fn is_asked(question: Question, values: &[u32], kind: u32, payload: u32, operands: &[u32]) -> bool
-    ensures { result ≡ is (asked question values.now) kind payload operands.now }
-{
-    (question.kind == kind)
-        & (question.payload == payload)
-        & (question.position == 0)
-        & (values == operands)
-}
-
-// What every host answers, at the four fixed questions.
+// What every host answers, at the four fixed questions. Each host asks this first: done in the trait, it would take a second method
+// for all other questions.
+#[tactic(auto, unfolding(crate::specs::Asked::fixed))]
 pub fn fixed_answer(question: Question, values: &[u32]) -> Option<u32>
     ensures { result ≡ fixed (asked question values.now) }
 {
-    if is_asked(question, values, 28, 1, &[]) {
-        Some(2)
-    } else if is_asked(question, values, 23, 2, &[2]) {
-        Some(3)
-    } else if is_asked(question, values, 7, 3, &[]) {
-        Some(4)
-    } else if is_asked(question, values, 12, 0, &[2, 3, 4]) {
-        Some(1)
-    } else {
-        None
+    match (question.kind, question.payload, question.position, values) {
+        (28, 1, 0, []) => Some(2),
+        (23, 2, 0, [2]) => Some(3),
+        (7, 3, 0, []) => Some(4),
+        (12, 0, 0, [2, 3, 4]) => Some(1),
+        _ => None,
     }
 }
 
+// Answers with the next of a list, and throws 0 at its end.
 #[derive(Drop)]
 pub struct ListHost<'a> {
     answers: &'a [u32],
-    spent: usize,
 }
 
 impl<'a> ListHost<'a> {
     pub fn new(answers: &'a [u32]) -> ListHost<'a>
-        ensures { tape result.answers.now result.spent ≡ tape answers.now 0 }
+        ensures { result.answers.now ≡ answers.now }
     {
-        ListHost { answers, spent: 0 }
+        ListHost { answers }
+    }
+
+    // How many answers were not asked for.
+    pub fn left(&self) -> usize
+        ensures { result ≡ length self.now.answers.now }
+    {
+        self.answers.len()
     }
 }
 
 impl<'a> Host for ListHost<'a> {
-    ghost State = { Tape };
+    ghost State = { List ℕ };
 
-    ghost state = { λ h. tape h.answers.now h.spent };
+    ghost state = { λ h. h.answers.now };
 
     ghost answer = { list_answer };
 
@@ -88,16 +82,16 @@ impl<'a> Host for ListHost<'a> {
 
     ghost keeps = { list_keeps };
 
-    fn ask(&mut self, question: Question, values: &[u32]) -> Reply {
+    fn ask(&mut self, question: Question, values: &[u32]) -> Result<u32, Thrown> {
         if let Some(v) = fixed_answer(question, values) {
-            return Reply::Value(v);
+            return Ok(v);
         }
-        if self.spent < self.answers.len() {
-            let v = self.answers[self.spent];
-            self.spent += 1;
-            Reply::Value(v)
-        } else {
-            Reply::Thrown(0)
+        match self.answers {
+            [v, rest @ ..] => {
+                self.answers = rest;
+                Ok(*v)
+            }
+            [] => Err(Thrown(0)),
         }
     }
 }
@@ -117,14 +111,14 @@ impl Host for NumberHost {
 
     ghost keeps = { number_keeps };
 
-    fn ask(&mut self, question: Question, values: &[u32]) -> Reply {
+    fn ask(&mut self, question: Question, values: &[u32]) -> Result<u32, Thrown> {
         if let Some(v) = fixed_answer(question, values) {
-            return Reply::Value(v);
+            return Ok(v);
         }
-        let mut sum = question.payload;
-        for v in values {
-            sum = sum.wrapping_add(*v);
-        }
-        Reply::Value(sum)
+        Ok(
+            values
+                .iter()
+                .fold(question.payload, |sum, v| sum.wrapping_add(*v)),
+        )
     }
 }

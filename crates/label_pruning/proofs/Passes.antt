@@ -1,12 +1,10 @@
 -- A block in which no labeled Break targets the label l around it does not end with a break to l.
 -- So the Label l has nothing to catch.
-use Rattle.std.proofs.Common.{◌≡◌, ℕ, zero, suc, Bool, true, false, cond, ◌||◌, eqb, List, [], ◌∷◌, Some, None, Option, refl, arith, eqb-true}
+use Rattle.std.proofs.Common.{◌≡◌, ℕ, zero, suc, Bool, true, false, cond, ◌||◌, eqb, List, [], ◌∷◌, Some, None, Option, refl, arith, eqb-true, Ok, Err}
 use Rattle.hir.specs.declared.place.Place.{Place}
 use Rattle.hir.specs.declared.terminal.ReactiveTerminalTargetKind.TheVariants.{Implicit, Labeled, Unlabeled}
 use Rattle.hir.specs.Tree.{Op, Val, operation, logical, conditional, sequence, optional, OptVal, no_val, some_val, Instr, instr, Instrs, inil, icons, Stmt, instruction, scope, pruned, terminal, Term, break, continue, return, throw, switch, do_while, while, for, for_of, for_in, if, label, try, Cases, knil, kcons, OptBlock, no_block, some_block, Block, nil, cons}
-use Rattle.host.specs.Asked.{asked}
-use Rattle.host.specs.declared.Reply.{Reply}
-use Rattle.host.specs.declared.Reply.TheVariants.{Value, Thrown}
+use Rattle.host.specs.Asked.{asked, Reply}
 use Rattle.semantics.specs.Machine.{Meaning, State, Out, normal, broke, continued, returned, threw, Result, done, spent, stepped, moved, branch, bind, handle, map_out, leave, on_reply, ask, test, ask_each, tick, iter}
 use Rattle.semantics.specs.Exec.{Class, loads, declares, stores, asks_each, asks, class, when, has_label, end_loop, end_round, end_label, eval_op, eval_v, eval_i, eval_is, eval_o, select, tested, run_s, run_t, run_from, run_o, run_b, always, default}
 use Rattle.semantics.specs.Targets.{mark, mark_inside}
@@ -147,8 +145,8 @@ module _ {S : Type 0} (l : ℕ) where
     ask_pass kind payload position vs s {k} g = go (H.answer s.host _)
       where
         go : (r : Reply) → Pass (on_reply H r (moved s (H.next s.host (asked (record { kind = kind; payload = payload; position = position }) vs))) k)
-        go (Value v) = g _
-        go (Thrown v) = record { pass = tt }
+        go (Ok v) = g _
+        go (Err t) = record { pass = tt }
 
     test_pass : (payload : ℕ) {y n : State S → Result S} (s : State S) → ((t : State S) → Pass (y t)) → ((t : State S) → Pass (n t)) → Pass (test H payload y n s)
     test_pass payload s f g = ask_pass 42 payload 0 _ s (λ t. branch_pass _ _ _ t (g t) (f t))

@@ -1,11 +1,9 @@
 -- Two runs of one tree from one state, under two step tests and two bounds on rounds.
 -- What the combinators keep between the two results, every construct keeps: the one induction behind the laws of budgets, rounds and records.
-use Rattle.std.proofs.Common.{◌≡◌, ℕ, zero, suc, Bool, true, false, List, [], ◌∷◌, Some, None, Option, refl}
+use Rattle.std.proofs.Common.{◌≡◌, ℕ, zero, suc, Bool, true, false, List, [], ◌∷◌, Some, None, Option, refl, Ok, Err}
 use Rattle.hir.specs.declared.place.Place.{Place}
 use Rattle.hir.specs.declared.terminal.ReactiveTerminalTargetKind.TheVariants.{Implicit, Labeled, Unlabeled}
-use Rattle.host.specs.declared.Reply.{Reply}
-use Rattle.host.specs.declared.Reply.TheVariants.{Value, Thrown}
-use Rattle.host.specs.Asked.{Asked, asked}
+use Rattle.host.specs.Asked.{Asked, asked, Reply}
 use Rattle.hir.specs.Tree.{Op, Val, operation, logical, conditional, sequence, optional, OptVal, no_val, some_val, Instr, instr, Instrs, inil, icons, Stmt, instruction, scope, pruned, terminal, Term, break, continue, return, throw, switch, do_while, while, for, for_of, for_in, if, label, try, Cases, knil, kcons, OptBlock, no_block, some_block, Block, nil, cons}
 use Rattle.semantics.specs.Machine.{Meaning, State, Out, normal, broke, returned, threw, Result, done, stepped, recorded, gave, moved, wrote, at, all_at, store_all, assign, bind, handle, map_out, enter, leave, branch, on_reply, ask, test, ask_each, tick, iter}
 use Rattle.semantics.specs.Targets.{mark, mark_inside}
@@ -43,8 +41,8 @@ module _ {S : Type 0} (H : Meaning S) (ok ok' : ℕ → Bool) (f f' : ℕ) where
         q = asked (record { kind = kind; payload = payload; position = position }) vs
 
         go : (r : Reply) → From s (on_reply H r (moved s (H.next s.host q)) k) (on_reply H r (moved s (H.next s.host q)) j)
-        go (Value v) = g _ v
-        go (Thrown v) = K.ends (threw v) (moved s (H.next s.host q))
+        go (Ok v) = g _ v
+        go (Err t) = K.ends (threw t.0) (moved s (H.next s.host q))
 
     testing : (payload : ℕ) (y y' n n' : State S → Result S) → ((t : State S) → From t (y t) (y' t)) → ((t : State S) → From t (n t) (n' t)) → (s : State S) → From s (test H payload y n s) (test H payload y' n' s)
     testing payload y y' n n' p q s = asking 42 payload 0 _ s _ _ (λ h v. splits _ _ _ _ _ (gave (moved s h) v) (q _) (p _))

@@ -1,14 +1,12 @@
 -- No jump leaves a function: where jumps have their targets, or do nothing, each is taken inside.
 -- What stands around a part says which jumps may come out of it; every construct takes those that mean it.
-use Rattle.std.proofs.Common.{◌≡◌, ℕ, zero, suc, Bool, true, false, ◌||◌, eqb, List, [], ◌∷◌, Some, None, Option, refl}
+use Rattle.std.proofs.Common.{◌≡◌, ℕ, zero, suc, Bool, true, false, ◌||◌, eqb, List, [], ◌∷◌, Some, None, Option, refl, Ok, Err}
 use borrow.Author.Tests.{clash}
 use Rattle.hir.specs.declared.place.Place.{Place}
 use Rattle.hir.specs.declared.terminal.ReactiveLabel.{ReactiveLabel}
 use Rattle.hir.specs.declared.terminal.ReactiveTerminalTargetKind.{ReactiveTerminalTargetKind}
 use Rattle.hir.specs.declared.terminal.ReactiveTerminalTargetKind.TheVariants.{Implicit, Labeled, Unlabeled}
-use Rattle.host.specs.declared.Reply.{Reply}
-use Rattle.host.specs.declared.Reply.TheVariants.{Value, Thrown}
-use Rattle.host.specs.Asked.{Asked, asked}
+use Rattle.host.specs.Asked.{Asked, asked, Reply}
 use Rattle.hir.specs.Tree.{Op, Val, operation, logical, conditional, sequence, optional, OptVal, no_val, some_val, Instr, instr, Instrs, inil, icons, Stmt, instruction, scope, pruned, terminal, Term, break, continue, return, throw, switch, do_while, while, for, for_of, for_in, if, label, try, Cases, knil, kcons, OptBlock, no_block, some_block, Block, nil, cons}
 use Rattle.semantics.specs.Machine.{Meaning, State, Out, normal, broke, continued, returned, threw, Result, done, spent, stepped, gave, moved, wrote, at, all_at, assign, bind, handle, map_out, enter, leave, branch, on_reply, ask, test, ask_each, tick, iter}
 use Rattle.semantics.specs.Targets.{mark, mark_inside, Around, nowhere, has, labelled, in_switch, in_loop, or_implicit, aim_b, aim_o, aim_k, aim_t, aim_s}
@@ -135,8 +133,8 @@ module _ {S : Type 0} (H : Meaning S) where
       q = asked (record { kind = kind; payload = payload; position = position }) vs
 
       go : (r : Reply) → Stays a (on_reply H r (moved s (H.next s.host q)) k)
-      go (Value v) = g _
-      go (Thrown v) = record { stays = tt }
+      go (Ok v) = g _
+      go (Err t) = record { stays = tt }
 
   test_stays : {a : Around} (payload : ℕ) (y n : State S → Result S) → ((t : State S) → Stays a (y t)) → ((t : State S) → Stays a (n t)) → (s : State S) → Stays a (test H payload y n s)
   test_stays payload y n p q s = ask_stays 42 payload 0 _ s _ (λ t. branch_stays _ _ _ t (q t) (p t))

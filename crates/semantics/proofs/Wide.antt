@@ -1,14 +1,12 @@
 -- A run from a longer store is the run from the shorter one with the rest behind it.
 -- States are compared by `widen`; what is read and written lies below N, and the store keeps its length.
-use Rattle.std.proofs.Common.{◌≡◌, ℕ, zero, suc, ◌<◌, ◌≤◌, Bool, true, false, eqb, List, [], ◌∷◌, ◌++◌, length, Some, None, Option, refl, ◌∙◌, arith, length-set}
+use Rattle.std.proofs.Common.{◌≡◌, ℕ, zero, suc, ◌<◌, ◌≤◌, Bool, true, false, eqb, List, [], ◌∷◌, ◌++◌, length, Some, None, Option, refl, ◌∙◌, arith, length-set, Ok, Err}
 use lib.ListN.{get_or-append}
 use lib.Seq.{set-append_left}
 use Rattle.hir.specs.declared.place.Place.{Place}
 use Rattle.hir.specs.declared.terminal.ReactiveTerminalTargetKind.{ReactiveTerminalTargetKind}
 use Rattle.hir.specs.declared.terminal.ReactiveTerminalTargetKind.TheVariants.{Implicit, Labeled, Unlabeled}
-use Rattle.host.specs.declared.Reply.{Reply}
-use Rattle.host.specs.declared.Reply.TheVariants.{Value, Thrown}
-use Rattle.host.specs.Asked.{Asked, asked}
+use Rattle.host.specs.Asked.{Asked, asked, Reply}
 use Rattle.hir.specs.Tree.{Op, Val, operation, logical, conditional, sequence, optional, OptVal, no_val, some_val, Instr, instr, Instrs, inil, icons, Stmt, instruction, scope, pruned, terminal, Term, break, continue, return, throw, switch, do_while, while, for, for_of, for_in, if, label, try, Cases, knil, kcons, OptBlock, no_block, some_block, Block, nil, cons, ScopeInfo}
 use Rattle.semantics.specs.Machine.{Meaning, State, Out, normal, broke, continued, returned, threw, Result, done, spent, stepped, recorded, gave, moved, wrote, at, all_at, last_at, store_all, assign, bind, handle, map_out, enter, leave, branch, on_reply, ask, test, ask_each, tick, iter, look, put}
 use Rattle.semantics.specs.Targets.{mark, mark_inside, Around, nowhere, labelled, in_switch, in_loop, aim_b, aim_o, aim_k, aim_t, aim_s}
@@ -136,8 +134,8 @@ module _ {S : Type 0} (τ : List ℕ) (N L : ℕ) (NL : N ≤ L) where
         q = asked (record { kind = kind; payload = payload; position = position }) vs
 
         go : (r : Reply) → Wide (on_reply H r (moved s (H.next s.host q)) k) (on_reply H r (moved (widen τ s) (H.next s.host q)) j)
-        go (Value v) = g (gave (moved s (H.next s.host q)) v) h
-        go (Thrown v) = end_wide (threw v) (moved s (H.next s.host q)) h
+        go (Ok v) = g (gave (moved s (H.next s.host q)) v) h
+        go (Err t) = end_wide (threw t.0) (moved s (H.next s.host q)) h
 
     test_wide : (payload : ℕ) (y y' n n' : State S → Result S) → Carries y y' → Carries n n' → Carries (test H payload y n) (test H payload y' n')
     test_wide payload y y' n n' p q s h = ask_wide 42 payload 0 s _ _ h refl (λ t i. branch_wide _ n n' y y' q p t i)

@@ -1,12 +1,12 @@
 -- Worked examples of the run: small functions, and what comes out of each. Assumes nothing.
-use Rattle.std.specs.Prelude.{◌≡◌, ℕ, Bool, true, false, List, [], ◌∷◌, Some, None, Option}
+use Rattle.std.specs.Prelude.{◌≡◌, ℕ, ◌-◌, Bool, true, false, List, [], ◌∷◌, length, Some, None, Option}
 use Rattle.hir.specs.declared.place.Place.{Place}
 use Rattle.hir.specs.declared.place.Effect.TheVariants.{Read}
 use Rattle.hir.specs.declared.value.LogicalOperator.TheVariants.{Or}
 use Rattle.hir.specs.declared.terminal.ReactiveTerminalTargetKind.TheVariants.{Implicit, Labeled, Unlabeled}
 use Rattle.hir.specs.declared.environment.ReactiveScopeEarlyReturn.{ReactiveScopeEarlyReturn}
 use Rattle.hir.specs.Tree.{Val, operation, logical, sequence, some_val, Instr, instr, inil, icons, Stmt, instruction, scope, pruned, terminal, Term, break, continue, return, throw, switch, do_while, while, for, label, try, Cases, knil, kcons, some_block, Block, nil, cons, Function}
-use Rattle.host.specs.Hosts.{Tape, tape, list_answer, list_next, list_keeps, number_answer, number_next, number_keeps}
+use Rattle.host.specs.Hosts.{list_answer, list_next, list_keeps, number_answer, number_next, number_keeps}
 use Rattle.semantics.specs.Machine.{Meaning, Result}
 use Rattle.semantics.specs.Exec.{exec, ran, last}
 use Rattle.semantics.specs.declared.Outcome.{Outcome}
@@ -17,7 +17,7 @@ use Rattle.semantics.specs.declared.Ran.{Ran}
 abbrev pub number_host : Meaning (Unit {0})
 number_host = record { answer = number_answer; next = number_next; keeps = number_keeps }
 
-abbrev pub list_host : Meaning Tape
+abbrev pub list_host : Meaning (List ℕ)
 list_host = record { answer = list_answer; next = list_next; keeps = list_keeps }
 
 -- ---- short words for trees; ids, spans and effects play no part in a run
@@ -184,7 +184,7 @@ pub record Shown : Type 0 where
 
 abbrev pub shows : Function → Asks → List ℕ → ℕ → Shown
 shows F numbers σ B = let r : Result (Unit {0}) = exec number_host F B tt σ in record { ran = ran r; store = (last r).store; taken = 0 }
-shows F (answers xs) σ B = let r : Result Tape = exec list_host F B (tape xs 0) σ in record { ran = ran r; store = (last r).store; taken = (last r).host.spent }
+shows F (answers xs) σ B = let r : Result (List ℕ) = exec list_host F B xs σ in record { ran = ran r; store = (last r).store; taken = length xs - length (last r).host }
 
 pub record Example : Type 0 where
   pub function : Function

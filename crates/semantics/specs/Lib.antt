@@ -4,3 +4,4 @@ pub mod Exec
 pub mod Laws
 pub mod Below
 pub mod Examples
+pub mod Words

@@ -1,9 +1,7 @@
 -- What a run is made of: states, results, questions to the host, steps and rounds. Assumes nothing.
-use Rattle.std.specs.Prelude.{ℕ, zero, suc, Bool, true, false, List, [], ◌∷◌, Some, None, Option, ◌==◌, slice_index, slice_set}
+use Rattle.std.specs.Prelude.{ℕ, zero, suc, Bool, true, false, List, [], ◌∷◌, Some, None, Option, ◌==◌, slice_index, slice_set, Ok, Err}
 use Rattle.hir.specs.declared.place.Place.{Place}
-use Rattle.host.specs.Asked.{Asked, Keeps, asked}
-use Rattle.host.specs.declared.Reply.{Reply}
-use Rattle.host.specs.declared.Reply.TheVariants.{Value, Thrown}
+use Rattle.host.specs.Asked.{Asked, Keeps, asked, Reply}
 
 -- a host whose states are of the type S: the answer and the next state, and the four fixed answers
 pub record Meaning (S : Type 0) : Type 0 where
@@ -119,8 +117,8 @@ module _ {S : Type 0} where
 
   module _ (H : Meaning S) where
     unfoldable pub on_reply : Reply → State S → (State S → Result S) → Result S
-    on_reply (Value v) s k = k (gave s v)
-    on_reply (Thrown v) s k = done (threw v) s
+    on_reply (Ok v) s k = k (gave s v)
+    on_reply (Err t) s k = done (threw t.0) s
 
     -- ask; the answer is given
     unfoldable pub ask : ℕ → ℕ → ℕ → List ℕ → State S → (State S → Result S) → Result S

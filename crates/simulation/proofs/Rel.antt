@@ -6,12 +6,10 @@
 --   outcome                the same; or a break to lab, for a return that the pass has opened
 --   return 1               anything
 --   no end                 no end
-use Rattle.std.proofs.Common.{◌≡◌, ℕ, zero, suc, ◌+◌, ◌*◌, ◌<◌, ◌≤◌, Bool, true, false, eqb, ◌⊎◌, List, [], ◌∷◌, length, Some, None, Option, sym, refl, ap, ◌∙◌, inl, inr, arith, ne_eqb, eqb-true}
+use Rattle.std.proofs.Common.{◌≡◌, ℕ, zero, suc, ◌+◌, ◌*◌, ◌<◌, ◌≤◌, Bool, true, false, eqb, ◌⊎◌, List, [], ◌∷◌, length, Some, None, Option, sym, refl, ap, ◌∙◌, inl, inr, arith, ne_eqb, eqb-true, Ok, Err}
 use borrow.Author.Tests.{eqb-false}
 use Rattle.hir.specs.declared.place.Place.{Place}
-use Rattle.host.specs.Asked.{Asked, asked}
-use Rattle.host.specs.declared.Reply.{Reply}
-use Rattle.host.specs.declared.Reply.TheVariants.{Value, Thrown}
+use Rattle.host.specs.Asked.{Asked, asked, Reply}
 use Rattle.semantics.specs.Machine.{Meaning, look, put, State, Out, normal, broke, continued, returned, threw, Result, done, spent, stepped, wrote, moved, gave, all_at, last_at, store_all, assign, branch, bind, handle, map_out, enter, leave, on_reply, ask, test, tick, iter}
 use Rattle.semantics.specs.Exec.{when, has_label, end_loop, end_round, end_label, always}
 use Rattle.simulation.specs.WellFormed.{All, IfSome, Sizes, PlaceOk}
@@ -287,8 +285,8 @@ module _ {S : Type 0} (K : Setting S) where
         near = moved_near _ _ refl h
 
         go : (r : Reply) → Rel n (on_reply H r u k) (on_reply H r u' j)
-        go (Value v) = f _ _ (gave_near v v refl near)
-        go (Thrown v) = threw_rel n v near
+        go (Ok v) = f _ _ (gave_near v v refl near)
+        go (Err t) = threw_rel n t.0 near
 
     pub test_rel : {n : Bool} (payload : ℕ) {y y' z z' : State S → Result S} (s s' : State S) → Beside true s s' → ((t t' : State S) → Beside true t t' → Rel n (y t) (y' t')) → ((t t' : State S) → Beside true t t' → Rel n (z t) (z' t')) → Rel n (test H payload y z s) (test H payload y' z' s')
     test_rel payload s s' h gy gz = ask_rel 42 payload 0 _ _ s s' _ _ (ap (λ v. v ∷ []) h.same_given) h
