@@ -5,7 +5,7 @@ ghost use Rattle.std.specs.Prelude.{◌≡◌};
 ghost use Rattle.fault.specs.Faults.{run_number, run_place};
 
 // A store that is shorter than the identifier table, a budget above the largest.
-#[derive(Clone, Copy)]
+#[derive(Clone, Copy, Debug, PartialEq, Eq, Hash)]
 pub enum RunFault {
     StoreTooShort,
     BudgetTooLarge,
@@ -26,8 +26,7 @@ impl RunFault {
         ensures { result ≡ run_place self.now }
     {
         match self {
-            RunFault::StoreTooShort => 0,
-            RunFault::BudgetTooLarge => 0,
+            RunFault::StoreTooShort | RunFault::BudgetTooLarge => 0,
         }
     }
 }

@@ -1,5 +1,5 @@
 -- The number, the layer and the place of each fault. Assumes nothing.
-use Rattle.std.specs.Prelude.{ℕ}
+use Rattle.std.specs.Prelude.{ℕ, List, codes}
 use Rattle.format.specs.declared.fault.Layer.{Layer}
 use Rattle.format.specs.declared.fault.Layer.TheVariants as Layers
 use Rattle.format.specs.declared.fault.FileFault.{FileFault}
@@ -10,6 +10,12 @@ use Rattle.format.specs.declared.fault.LoadFault.{LoadFault}
 use Rattle.format.specs.declared.fault.LoadFault.TheVariants.{File, Check}
 use Rattle.format.specs.declared.fault.CallFault.{CallFault}
 use Rattle.format.specs.declared.fault.CallFault.TheVariants.{Load, BufferTooSmall}
+
+abbrev pub layer_name : Layer → List ℕ
+layer_name Layers.File = codes "file"
+layer_name Layers.Check = codes "check"
+layer_name Layers.Walk = codes "walk"
+layer_name Layers.Call = codes "call"
 
 -- the length; the pairs; cases, options and flags, to each section's exact end; the limits
 abbrev pub file_number : FileFault → ℕ

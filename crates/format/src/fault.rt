@@ -1,8 +1,10 @@
 // Why a call is refused: each fault has a number, a layer and a place, which stay as it goes up from layer to layer.
-ghost use Rattle.std.specs.Prelude.{◌≡◌};
-ghost use Rattle.format.specs.Faults.{file_number, file_place, check_number, check_place, load_number, load_layer, load_place, call_number, call_layer, call_place, load_of_file, load_of_check, call_of_load};
+ghost use Rattle.std.specs.Prelude.{◌≡◌, Some};
+ghost use Rattle.format.specs.Faults.{file_number, file_place, check_number, check_place, layer_name, load_number, load_layer, load_place, call_number, call_layer, call_place, load_of_file, load_of_check, call_of_load};
 
-#[derive(Clone, Copy)]
+use std::fmt;
+
+#[derive(Clone, Copy, Debug, PartialEq, Eq, Hash)]
 pub enum Layer {
     File,
     Check,
@@ -10,8 +12,21 @@ pub enum Layer {
     Call,
 }
 
+impl fmt::Display for Layer {
+    ghost output = { λ layer. Some (layer_name layer) };
+
+    fn fmt<W: fmt::Write>(&self, f: &mut fmt::Formatter<W>) -> fmt::Result {
+        match self {
+            Layer::File => write!(f, "file"),
+            Layer::Check => write!(f, "check"),
+            Layer::Walk => write!(f, "walk"),
+            Layer::Call => write!(f, "call"),
+        }
+    }
+}
+
 // The file's length, a pair, a word that cannot be read, a limit that is passed; with the word's number.
-#[derive(Clone, Copy)]
+#[derive(Clone, Copy, Debug, PartialEq, Eq, Hash)]
 pub enum FileFault {
     Length,
     Pairs(u32),
@@ -20,7 +35,7 @@ pub enum FileFault {
 }
 
 // A number out of its table, written places or operands not as their kind asks, a jump without target, a scope that has a record or a second Scope block; with the statement's number.
-#[derive(Clone, Copy)]
+#[derive(Clone, Copy, Debug, PartialEq, Eq, Hash)]
 pub enum CheckFault {
     Numbers(u32),
     Shapes(u32),
@@ -28,13 +43,13 @@ pub enum CheckFault {
     Scopes(u32),
 }
 
-#[derive(Clone, Copy)]
+#[derive(Clone, Copy, Debug, PartialEq, Eq, Hash)]
 pub enum LoadFault {
     File(FileFault),
     Check(CheckFault),
 }
 
-#[derive(Clone, Copy)]
+#[derive(Clone, Copy, Debug, PartialEq, Eq, Hash)]
 pub enum CallFault {
     Load(LoadFault),
     BufferTooSmall,
@@ -64,6 +79,7 @@ impl From<LoadFault> for CallFault {
     }
 }
 
+// Each type has these methods by itself: no function takes a fault of any type, so a trait of them would be no bound.
 impl FileFault {
     pub fn number(&self) -> u32
         ensures { result ≡ file_number self.now }
@@ -76,14 +92,13 @@ impl FileFault {
         }
     }
 
+    // A number as it is told; 0 where the whole file is meant.
     pub fn place(&self) -> u32
         ensures { result ≡ file_place self.now }
     {
         match self {
             FileFault::Length => 0,
-            FileFault::Pairs(word) => *word,
-            FileFault::Reading(word) => *word,
-            FileFault::Limit(word) => *word,
+            FileFault::Pairs(word) | FileFault::Reading(word) | FileFault::Limit(word) => *word,
         }
     }
 }
@@ -104,10 +119,10 @@ impl CheckFault {
         ensures { result ≡ check_place self.now }
     {
         match self {
-            CheckFault::Numbers(statement) => *statement,
-            CheckFault::Shapes(statement) => *statement,
-            CheckFault::Targets(statement) => *statement,
-            CheckFault::Scopes(statement) => *statement,
+            CheckFault::Numbers(statement)
+            | CheckFault::Shapes(statement)
+            | CheckFault::Targets(statement)
+            | CheckFault::Scopes(statement) => *statement,
         }
     }
 }
@@ -160,6 +175,7 @@ impl CallFault {
         }
     }
 
+    // 0 where the call as a whole is refused.
     pub fn place(&self) -> u32
         ensures { result ≡ call_place self.now }
     {
