@@ -1,5 +1,5 @@
 -- The bytes of the words that a text says, or its fault; and what a call gives of it, unless memory failed. Assumes nothing.
-use Rattle.std.specs.Prelude.{◌≡◌, ℕ, ◌⊎◌, List, Ok, Err, vec_items, Result, Vec}
+use Rattle.std.specs.Prelude.{◌≡◌, ℕ, ◌⊎◌, List, Ok, Err, alloc_error, vec_items, Result, Vec}
 use Rattle.std.specs.declared.alloc.Global.{Global}
 use Rattle.format.specs.Words.{bytes}
 use Rattle.text.specs.Said.{said}
@@ -15,4 +15,4 @@ packed text = as_bytes (said text)
 
 abbrev pub Packs : List ℕ → Result (Vec ℕ Global) TextFault → Type 0
 Packs text (Ok v) = packed text ≡ Ok (vec_items v)
-Packs text (Err f) = (f ≡ Memory) ⊎ (packed text ≡ Err f)
+Packs text (Err f) = (f ≡ Memory alloc_error) ⊎ (packed text ≡ Err f)

@@ -9,11 +9,6 @@ use text::read::words;
 pub fn pack(heap: Global, text: &[u8]) -> Result<Vec<u8>, TextFault>
     ensures { Packs text.now result }
 {
-    match words(heap, text) {
-        Ok(said) => match bytes_of(heap, said.as_slice()) {
-            Ok(bytes) => Ok(bytes),
-            Err(_) => Err(TextFault::Memory),
-        },
-        Err(fault) => Err(fault),
-    }
+    let said = words(heap, text)?;
+    Ok(bytes_of(heap, said.as_slice())?)
 }

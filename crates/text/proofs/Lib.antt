@@ -1,5 +1,4 @@
-pub mod Pieces
 pub mod Printed
-pub mod Pushed
+pub mod Quads
 pub mod Saying
 pub mod Sectioned

@@ -1,52 +1,54 @@
 -- Where a reader stands in a text, and what each character does to that.
 -- The words so far, and what is said from here on, are what the text says.
-use Rattle.std.proofs.Common.{◌≡◌, ℕ, ◌+◌, ◌<◌, ◌≤◌, List, [], ◌∷◌, ◌++◌, length, get_or, drop, Ok, Err, Result, sym, refl, ap, ◌∙◌, append_assoc, add-one, arith, drop-cons}
+use Rattle.std.proofs.Common.{◌≡◌, ℕ, ◌+◌, ◌<◌, ◌≤◌, true, false, cond, List, [], ◌∷◌, ◌++◌, length, get_or, drop, Some, None, Ok, Err, Option, Result, sym, refl, ap, ◌∙◌, append_assoc, add-one, arith, drop-cons}
 use Rattle.std.proofs.lemmas.List.{drop_all}
 use Rattle.std.proofs.lemmas.Bool.Decides.{nat_tests}
+use Rattle.std.specs.Char.{is_ascii_whitespace}
 use Rattle.text.specs.declared.character.Position.{Position}
-use Rattle.text.specs.declared.character.State.{State}
-use Rattle.text.specs.declared.character.State.TheVariants.{Between}
-use Rattle.text.specs.declared.character.Step.{Step}
-use Rattle.text.specs.declared.character.Step.TheVariants.{On, Ended, Refused}
+use Rattle.text.specs.declared.character.Word.{Word}
 use Rattle.text.specs.declared.character.TextFault.{TextFault}
-use Rattle.text.specs.Said.{kind_of, start, next_of, step_of, last_of, onto, said_from, said}
+use Rattle.text.specs.declared.character.TextFault.TheVariants.{Character}
+use Rattle.text.specs.Said.{start, next_of, digit_of, longer_of, ended_of, onto, said_from, said}
 
-pub record Stands (text ws : List ℕ) (s : State) (at : Position) (i : ℕ) : Type 0 where
-  pub same : said text ≡ onto ws (said_from s at (drop i text))
+pub record Stands (text ws : List ℕ) (word : Option Word) (at : Position) (i : ℕ) : Type 0 where
+  pub same : said text ≡ onto ws (said_from word at (drop i text))
   pub line : at.line ≤ i + 1
   pub column : at.column ≤ i + 1
 
--- what is said from here on, by what the first character does
-abbrev goes : Step → Position → List ℕ → Result (List ℕ) TextFault
-goes step at bs =
-    elim step [
-      | On more ↦ said_from more at bs
-      | Ended w ↦ onto (w ∷ []) (said_from Between at bs)
-      | Refused f ↦ Err f
+-- what is said from here on, by what a digit makes of the word
+abbrev pub goes_longer : Position → List ℕ → Result Word TextFault → Result (List ℕ) TextFault
+goes_longer next bs r = elim r [ Ok longer ↦ said_from (Some longer) next bs | Err f ↦ Err f ]
+
+-- by the digit that the first character is
+abbrev goes : Option Word → Position → ℕ → List ℕ → Option ℕ → Result (List ℕ) TextFault
+goes word at b bs o =
+    elim o [
+      | Some d ↦ goes_longer (next_of at b) bs (longer_of word at d)
+      | None ↦ cond (is_ascii_whitespace b) (onto (ended_of word) (said_from None (next_of at b) bs)) (Err (Character at))
     ]
 
-onto_none : (r : Result (List ℕ) TextFault) → onto [] r ≡ r
+pub at_digit : (word : Option Word) (at : Position) (b d : ℕ) (bs : List ℕ) (r : Result Word TextFault) → digit_of b ≡ Some d → longer_of word at d ≡ r → said_from word at (b ∷ bs) ≡ goes_longer (next_of at b) bs r
+at_digit word at b d bs r e f = ap (goes word at b bs) e ∙ ap (goes_longer (next_of at b) bs) f
+
+pub at_white : (word : Option Word) (at : Position) (b : ℕ) (bs : List ℕ) → digit_of b ≡ None → is_ascii_whitespace b ≡ true → said_from word at (b ∷ bs) ≡ onto (ended_of word) (said_from None (next_of at b) bs)
+at_white word at b bs e f = ap (goes word at b bs) e ∙ ap (λ t. cond t (onto (ended_of word) (said_from None (next_of at b) bs)) (Err (Character at))) f
+
+at_other : (word : Option Word) (at : Position) (b : ℕ) (bs : List ℕ) → digit_of b ≡ None → is_ascii_whitespace b ≡ false → said_from word at (b ∷ bs) ≡ Err (Character at)
+at_other word at b bs e f = ap (goes word at b bs) e ∙ ap (λ t. cond t (onto (ended_of word) (said_from None (next_of at b) bs)) (Err (Character at))) f
+
+pub onto_none : (r : Result (List ℕ) TextFault) → onto [] r ≡ r
 onto_none (Ok vs) = refl
 onto_none (Err f) = refl
 
-onto_more : (ws : List ℕ) (w : ℕ) (r : Result (List ℕ) TextFault) → onto ws (onto (w ∷ []) r) ≡ onto (ws ++ w ∷ []) r
-onto_more ws w (Ok vs) = ap Ok (sym (append_assoc ws (w ∷ []) vs))
-onto_more ws w (Err f) = refl
+pub onto_onto : (vs ws : List ℕ) (r : Result (List ℕ) TextFault) → onto vs (onto ws r) ≡ onto (vs ++ ws) r
+onto_onto vs ws (Ok us) = ap Ok (sym (append_assoc vs ws us))
+onto_onto vs ws (Err f) = refl
 
--- at a character that does step
-pub said_at : (s : State) (at : Position) (b : ℕ) (bs : List ℕ) (step : Step) → step_of s at (kind_of b) ≡ step → said_from s at (b ∷ bs) ≡ goes step (next_of at b) bs
-said_at s at b bs step e = ap (λ (t : Step). goes t (next_of at b) bs) e
+-- in the middle of a text
+here : (text : List ℕ) (i : ℕ) → i < length text → drop i text ≡ get_or text i 0 ∷ drop (i + 1) text
+here text i h = rw (add-one, drop-cons text i 0)
 
--- the same, in the middle of a text
-said_here : (text : List ℕ) (s : State) (at : Position) (i : ℕ) (step : Step) → i < length text → step ≡ step_of s at (kind_of (get_or text i 0)) →
-    said_from s at (drop i text) ≡ goes step (next_of at (get_or text i 0)) (drop (i + 1) text)
-said_here text s at i step h e =
-    let b = get_or text i 0 in
-    let cut : drop i text ≡ b ∷ drop (i + 1) text = rw (add-one, drop-cons text i 0) in
-    let on : said_from s at (b ∷ drop (i + 1) text) ≡ goes step (next_of at b) (drop (i + 1) text) = ap (λ (t : Step). goes t (next_of at b) (drop (i + 1) text)) (sym e) in
-    ap (said_from s at) cut ∙ on
-
-pub stands_first : (text : List ℕ) → Stands text [] Between start 0
+pub stands_first : (text : List ℕ) → Stands text [] None start 0
 stands_first text = record { same = sym (onto_none (said text)); line = omega arith; column = omega arith }
 
 next_line : (at : Position) (b i : ℕ) → at.line ≤ i + 1 → (next_of at b).line ≤ (i + 1) + 1
@@ -55,27 +57,27 @@ next_line at b i h = grind (arith, nat_tests)
 next_column : (at : Position) (b i : ℕ) → at.column ≤ i + 1 → (next_of at b).column ≤ (i + 1) + 1
 next_column at b i h = grind (arith, nat_tests)
 
--- after a character that a word or white space goes on with
-pub stands_on : (text ws : List ℕ) (s more : State) (at : Position) (i : ℕ) → i < length text → On more ≡ step_of s at (kind_of (get_or text i 0)) → Stands text ws s at i →
-    Stands text ws more (next_of at (get_or text i 0)) (i + 1)
-stands_on text ws s more at i h e w =
-    record { same = w.same ∙ ap (onto ws) (said_here text s at i (On more) h e); line = next_line at _ i w.line; column = next_column at _ i w.column }
+module _ (text ws : List ℕ) (word : Option Word) (at : Position) (i : ℕ) where
+  -- after a digit
+  pub stands_digit : (d : ℕ) (longer : Word) → i < length text → digit_of (get_or text i 0) ≡ Some d → longer_of word at d ≡ Ok longer → Stands text ws word at i →
+      Stands text ws (Some longer) (next_of at (get_or text i 0)) (i + 1)
+  stands_digit d longer h e f w =
+      record { same = w.same ∙ ap (onto ws) (ap (said_from word at) (here text i h) ∙ at_digit word at (get_or text i 0) d (drop (i + 1) text) (Ok longer) e f); line = next_line at _ i w.line; column = next_column at _ i w.column }
 
--- after one that ends a word
-pub stands_ended : (text ws : List ℕ) (s : State) (n : ℕ) (at : Position) (i : ℕ) → i < length text → Ended n ≡ step_of s at (kind_of (get_or text i 0)) → Stands text ws s at i →
-    Stands text (ws ++ n ∷ []) Between (next_of at (get_or text i 0)) (i + 1)
-stands_ended text ws s n at i h e w =
-    record { same = w.same ∙ ap (onto ws) (said_here text s at i (Ended n) h e) ∙ onto_more ws n _; line = next_line at _ i w.line; column = next_column at _ i w.column }
+  -- after white space
+  pub stands_white : i < length text → digit_of (get_or text i 0) ≡ None → is_ascii_whitespace (get_or text i 0) ≡ true → Stands text ws word at i →
+      Stands text (ws ++ ended_of word) None (next_of at (get_or text i 0)) (i + 1)
+  stands_white h e f w =
+      record { same = w.same ∙ ap (onto ws) (ap (said_from word at) (here text i h) ∙ at_white word at (get_or text i 0) (drop (i + 1) text) e f) ∙ onto_onto ws (ended_of word) _; line = next_line at _ i w.line; column = next_column at _ i w.column }
 
--- at one that is refused
-pub stands_refused : (text ws : List ℕ) (s : State) (f : TextFault) (at : Position) (i : ℕ) → i < length text → Refused f ≡ step_of s at (kind_of (get_or text i 0)) → Stands text ws s at i →
-    said text ≡ Err f
-stands_refused text ws s f at i h e w = w.same ∙ ap (onto ws) (said_here text s at i (Refused f) h e)
+  -- at a digit too many
+  pub stands_large : (d : ℕ) (fault : TextFault) → i < length text → digit_of (get_or text i 0) ≡ Some d → longer_of word at d ≡ Err fault → Stands text ws word at i → said text ≡ Err fault
+  stands_large d fault h e f w = w.same ∙ ap (onto ws) (ap (said_from word at) (here text i h) ∙ at_digit word at (get_or text i 0) d (drop (i + 1) text) (Err fault) e f)
 
--- at the end of the text
-pub stands_last : (text ws : List ℕ) (s : State) (at : Position) (i : ℕ) → length text ≤ i → Stands text ws s at i → said text ≡ Ok (ws ++ last_of s)
-stands_last text ws s at i h w = w.same ∙ ap (λ (bs : List ℕ). onto ws (said_from s at bs)) (drop_all i text h)
+  -- at any other character
+  pub stands_other : i < length text → digit_of (get_or text i 0) ≡ None → is_ascii_whitespace (get_or text i 0) ≡ false → Stands text ws word at i → said text ≡ Err (Character at)
+  stands_other h e f w = w.same ∙ ap (onto ws) (ap (said_from word at) (here text i h) ∙ at_other word at (get_or text i 0) (drop (i + 1) text) e f)
 
--- the same place under other names
-pub stands_as : {text ws vs : List ℕ} {s t : State} {at to : Position} {i : ℕ} → vs ≡ ws → t ≡ s → to ≡ at → Stands text ws s at i → Stands text vs t to i
-stands_as p q r w = rw (p, q, r) w
+  -- at the end of the text
+  pub stands_last : length text ≤ i → Stands text ws word at i → said text ≡ Ok (ws ++ ended_of word)
+  stands_last h w = w.same ∙ ap (λ (bs : List ℕ). onto ws (said_from word at bs)) (drop_all i text h)

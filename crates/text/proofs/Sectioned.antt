@@ -1,6 +1,6 @@
 -- The sections that the pairs of a file name, one after another behind the pairs, are the file's words.
 -- So the lines that show a file say its words again.
-use Rattle.std.proofs.Common.{◌≡◌, ℕ, ◌+◌, ◌*◌, ◌<◌, List, [], ◌∷◌, ◌++◌, length, get_or, take, drop, Ok, sym, ap, ◌∙◌, append-nil, arith, length-drop, take-append-drop, take_all, drop-drop}
+use Rattle.std.proofs.Common.{◌≡◌, ℕ, ◌+◌, ◌*◌, ◌<◌, List, [], ◌∷◌, ◌++◌, length, get_or, take, drop, None, Ok, sym, ap, ◌∙◌, append-nil, arith, length-drop, take-append-drop, take_all, drop-drop}
 use Rattle.std.specs.List.{AllByRecursion}
 use Rattle.std.proofs.ByRecursion.{All-take, All-drop}
 use Rattle.hir.specs.Tree.{Function}
@@ -9,7 +9,6 @@ use Rattle.format.specs.Words.{words}
 use Rattle.format.proofs.Bytes.{bytes_words, file_whole}
 use Rattle.format.proofs.Sections.{parse_parsed, pair_stands, last_stands}
 use Rattle.text.specs.declared.character.Position.{Position}
-use Rattle.text.specs.declared.character.State.TheVariants.{Between}
 use Rattle.text.specs.Again.{ShownIsReadAgain}
 use Rattle.text.specs.Line.{line}
 use Rattle.text.specs.Said.{start, onto, said_from, said}
@@ -67,15 +66,15 @@ parts_all ws F e =
     ap (λ (l : List ℕ). take 8 ws ++ l) l₁ ∙ take-append-drop 8 ws
 
 -- lines behind a line
-then_lines : (ws vs more : List ℕ) (at : Position) → Small ws → ((to : Position) → said_from Between to more ≡ Ok vs) → said_from Between at (line ws ++ more) ≡ Ok (ws ++ vs)
+then_lines : (ws vs more : List ℕ) (at : Position) → Small ws → ((to : Position) → said_from None to more ≡ Ok vs) → said_from None at (line ws ++ more) ≡ Ok (ws ++ vs)
 then_lines ws vs more at h next =
     let p = line_passes ws h at more in
     p.same ∙ ap (onto ws) (next p.to)
 
-last_line : (ws : List ℕ) (at : Position) → Small ws → said_from Between at (line ws) ≡ Ok ws
+last_line : (ws : List ℕ) (at : Position) → Small ws → said_from None at (line ws) ≡ Ok ws
 last_line ws at h =
     let p = line_passes ws h at [] in
-    ap (said_from Between at) (sym (append-nil (line ws))) ∙ p.same ∙ ap Ok (append-nil ws)
+    ap (said_from None at) (sym (append-nil (line ws))) ∙ p.same ∙ ap Ok (append-nil ws)
 
 lines_say : (ws : List ℕ) → Small ws → said (five_lines ws) ≡ Ok (parts ws)
 lines_say ws h =

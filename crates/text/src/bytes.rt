@@ -4,7 +4,7 @@ ghost use Rattle.format.specs.Words.{bytes as bytes_of_words, words as words_of_
 
 use std::alloc::{AllocError, Global};
 
-// Four bytes to a word, the lowest first.
+// Four bytes to a word, the lowest first. A loop, since the proof of a chain that flattens did not close.
 pub fn bytes_of(heap: Global, words: &[u32]) -> Result<Vec<u8>, AllocError>
     ensures { IfOk result (λ v. v.items ≡ bytes_of_words words.now) }
 {
@@ -19,12 +19,9 @@ pub fn bytes_of(heap: Global, words: &[u32]) -> Result<Vec<u8>, AllocError>
 pub fn words_of(heap: Global, bytes: &[u8]) -> Result<Vec<u32>, AllocError>
     ensures { IfOk result (λ v. v.items ≡ words_of_bytes bytes.now) }
 {
-    let mut words = Vec::new(heap);
-    let mut rest = bytes;
-    while rest.len() >= 4 {
-        let word = u32::from_le_bytes([rest[0], rest[1], rest[2], rest[3]]);
-        words.push(word)?;
-        rest = &rest[4..];
-    }
-    Ok(words)
+    let (quads, _) = bytes.as_chunks::<4>();
+    quads
+        .iter()
+        .map(|quad| u32::from_le_bytes(*quad))
+        .collect(heap)
 }

@@ -1,54 +1,62 @@
-// One character after another: where it stands, and what it does to the word that is being read.
-ghost use Rattle.std.specs.Prelude.{◌≡◌, ◌+◌, ◌^◌, ◌<◌};
-ghost use Rattle.text.specs.Said.{kind_of, next_of, longer_of, step_of};
+// One character after another: where it stands, and what it adds to the word that is being read.
+ghost use Rattle.std.specs.Prelude.{◌≡◌, ◌+◌, ◌*◌, ◌^◌, ◌<◌, SomeIff, alloc_error};
+ghost use Rattle.text.specs.declared.character.TextFault.TheVariants.{Memory};
+ghost use Rattle.text.specs.Said.{digit_of, longer_of, next_of};
+
+use std::alloc::{AllocError, AllocFailed};
+use std::error::Error;
 
 // Line and column of a byte, both from 1.
-#[derive(Clone, Copy)]
+#[derive(Clone, Copy, Debug, PartialEq, Eq, Hash)]
 pub struct Position {
     pub line: usize,
     pub column: usize,
 }
 
 // A character that is neither a digit nor white space; a word above 4,294,967,295, with where it begins; no memory.
-#[derive(Clone, Copy)]
+#[derive(Clone, Copy, Debug, PartialEq, Eq)]
 pub enum TextFault {
     Character(Position),
     TooLarge(Position),
-    Memory,
+    Memory(AllocError),
 }
 
-#[derive(Clone, Copy)]
-pub enum Kind {
-    Digit(u32),
-    White,
-    Other,
-}
+impl From<AllocError> for TextFault {
+    ghost from_gives = { λ error fault. fault ≡ Memory error };
 
-// What is being read: white space, or a word that is this much so far and began there.
-#[derive(Clone, Copy)]
-pub enum State {
-    Between,
-    Word(u32, Position),
-}
-
-// What a character does: reading goes on, a word has ended before it, or the text is refused.
-#[derive(Clone, Copy)]
-pub enum Step {
-    On(State),
-    Ended(u32),
-    Refused(TextFault),
-}
-
-pub(crate) fn kind_of(byte: u8) -> Kind
-    ensures { result ≡ kind_of byte }
-{
-    if byte.is_ascii_whitespace() {
-        Kind::White
-    } else if byte.is_ascii_digit() {
-        Kind::Digit((byte - 48) as u32)
-    } else {
-        Kind::Other
+    fn from(error: AllocError) -> TextFault {
+        TextFault::Memory(error)
     }
+}
+
+impl<T: Drop> From<AllocFailed<T>> for TextFault {
+    ghost from_gives = { λ _ fault. fault ≡ Memory alloc_error };
+
+    fn from(error: AllocFailed<T>) -> TextFault {
+        AllocError::from(error).into()
+    }
+}
+
+impl Error for TextFault {}
+
+// A word that is being read: it is this much so far, and began there.
+#[derive(Clone, Copy, Debug, PartialEq, Eq, Hash)]
+pub struct Word {
+    pub value: u32,
+    pub from: Position,
+}
+
+pub fn digit(byte: u8) -> Option<u32>
+    ensures { result ≡ digit_of byte }
+{
+    char::from(byte).to_digit(10)
+}
+
+// A number with one digit more.
+pub fn appended(value: u32, digit: u32) -> Option<u32>
+    ensures { SomeIff result (value * 10 + digit < 2 ^ 32) (value * 10 + digit) }
+{
+    value.checked_mul(10)?.checked_add(digit)
 }
 
 // The position behind a byte.
@@ -56,44 +64,31 @@ pub(crate) fn next(at: Position, byte: u8) -> Position
     requires { (at.line + 1 < 2 ^ 64) × (at.column + 1 < 2 ^ 64) }
     ensures { result ≡ next_of at byte }
 {
-    if byte == 10 {
+    if byte == b'\n' {
         Position {
             line: at.line + 1,
             column: 1,
         }
     } else {
         Position {
-            line: at.line,
             column: at.column + 1,
+            ..at
         }
     }
 }
 
-// A word with one digit more.
-fn longer(value: u32, from: Position, digit: u32) -> Step
-    ensures { result ≡ longer_of value from digit }
+// A digit begins a word, or is one more of it.
+pub(crate) fn longer(word: Option<Word>, at: Position, digit: u32) -> Result<Word, TextFault>
+    ensures { result ≡ longer_of word at digit }
 {
-    let longer = value as u64 * 10 + digit as u64;
-    if longer <= 4294967295 {
-        Step::On(State::Word(longer as u32, from))
-    } else {
-        Step::Refused(TextFault::TooLarge(from))
-    }
-}
-
-pub(crate) fn advance(state: State, at: Position, kind: Kind) -> Step
-    ensures { result ≡ step_of state at kind }
-{
-    match state {
-        State::Between => match kind {
-            Kind::Digit(digit) => Step::On(State::Word(digit, at)),
-            Kind::White => Step::On(State::Between),
-            Kind::Other => Step::Refused(TextFault::Character(at)),
-        },
-        State::Word(value, from) => match kind {
-            Kind::Digit(digit) => longer(value, from, digit),
-            Kind::White => Step::Ended(value),
-            Kind::Other => Step::Refused(TextFault::Character(at)),
-        },
+    match word {
+        None => Ok(Word {
+            value: digit,
+            from: at,
+        }),
+        Some(Word { value, from }) => Ok(Word {
+            value: appended(value, digit).ok_or(TextFault::TooLarge(from))?,
+            from,
+        }),
     }
 }

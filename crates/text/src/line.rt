@@ -1,37 +1,35 @@
 // Words in decimal on a line.
-ghost use Rattle.std.specs.Prelude.{◌≡◌, [], ◌∷◌, ◌++◌, string_bytes, OnOk};
-ghost use Rattle.text.specs.Line.{spaced, between_spaces, line as line_of};
+ghost use Rattle.std.specs.Prelude.{Some};
+ghost use Rattle.text.specs.Line.{between_spaces, spaced};
 
 use std::fmt;
 
 // Each word with a space before it.
-fn add_spaced(out: &mut String, words: &[u32]) -> fmt::Result
-    ensures { OnOk result (string_bytes out.new ≡ string_bytes out.old ++ spaced words.now) }
-{
-    for each in words {
-        let word = *each;
-        write!(out, " {word}")?;
+#[derive(Clone, Copy)]
+pub struct Spaced<'a>(pub &'a [u32]);
+
+impl fmt::Display for Spaced<'_> {
+    ghost output = { λ words. Some (spaced words.0.now) };
+
+    fn fmt<W: fmt::Write>(&self, f: &mut fmt::Formatter<W>) -> fmt::Result {
+        for word in self.0 {
+            write!(f, " {word}")?;
+        }
+        Ok(())
     }
-    Ok(())
 }
 
 // The words with single spaces between them.
-pub fn add_words(out: &mut String, words: &[u32]) -> fmt::Result
-    ensures { OnOk result (string_bytes out.new ≡ string_bytes out.old ++ between_spaces words.now) }
-{
-    if words.len() == 0 {
-        return Ok(());
-    }
-    let word = words[0];
-    write!(out, "{word}")?;
-    add_spaced(out, &words[1..])
-}
+#[derive(Clone, Copy)]
+pub struct Words<'a>(pub &'a [u32]);
 
-// The words, and the end of the line.
-pub fn add_line(out: &mut String, words: &[u32]) -> fmt::Result
-    ensures { OnOk result (string_bytes out.new ≡ string_bytes out.old ++ line_of words.now) }
-{
-    add_words(out, words)?;
-    writeln!(out)?;
-    Ok(())
+impl fmt::Display for Words<'_> {
+    ghost output = { λ words. Some (between_spaces words.0.now) };
+
+    fn fmt<W: fmt::Write>(&self, f: &mut fmt::Formatter<W>) -> fmt::Result {
+        match self.0 {
+            [] => Ok(()),
+            [first, rest @ ..] => write!(f, "{first}{}", Spaced(rest)),
+        }
+    }
 }

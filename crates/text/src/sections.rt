@@ -1,63 +1,46 @@
 // A function file's words, section by section.
-ghost use Rattle.std.specs.Prelude.{◌≡◌, ◌++◌, take, drop, string_bytes, OnOk, slice_index};
+ghost use Rattle.std.specs.Prelude.{◌≡◌, Some, slice_index, take};
 ghost use Rattle.text.specs.Sections.{section_of, five_lines};
-ghost use Rattle.text.specs.Line.{line as line_of};
 
-use crate::line::add_line;
+use crate::line::Words;
 use std::fmt;
 
-// So many words from there on, or as many of them as there are.
-fn part(words: &[u32], start: usize, count: usize) -> &[u32]
-    ensures { result.now ≡ take count (drop start words.now) }
-{
-    let len = words.len();
-    if start > len {
-        return &words[len..];
-    }
-    let rest = &words[start..];
-    if count > rest.len() {
-        return rest;
-    }
-    &rest[..count]
-}
-
 // A word past the end is 0.
-fn word_at(words: &[u32], i: usize) -> u32
+fn word_at(words: &[u32], i: usize) -> usize
     ensures { result ≡ slice_index words.now i }
 {
-    if i < words.len() { words[i] } else { 0 }
+    words.get(i).copied().unwrap_or(0) as usize
 }
 
-// The section whose offset and length are those words.
+// The section whose offset and length are those words, as far as there are such words.
 fn section(words: &[u32], offset: usize, length: usize) -> &[u32]
     ensures { result.now ≡ section_of offset length words.now }
 {
-    part(
-        words,
-        word_at(words, offset) as usize,
-        word_at(words, length) as usize,
-    )
+    let start = word_at(words, offset).min(words.len());
+    let rest = &words[start..];
+    &rest[..word_at(words, length).min(rest.len())]
 }
 
-fn add_pairs(out: &mut String, words: &[u32]) -> fmt::Result
-    ensures { OnOk result (string_bytes out.new ≡ string_bytes out.old ++ line_of (take 8 words.now)) }
+fn pairs(words: &[u32]) -> &[u32]
+    ensures { result.now ≡ take 8 words.now }
 {
-    add_line(out, part(words, 0, 8))
-}
-
-fn add_section(out: &mut String, words: &[u32], offset: usize, length: usize) -> fmt::Result
-    ensures { OnOk result (string_bytes out.new ≡ string_bytes out.old ++ line_of (section_of offset length words.now)) }
-{
-    add_line(out, section(words, offset, length))
+    &words[..words.len().min(8)]
 }
 
 // Pairs, counters, identifiers, scopes and body, a line each.
-pub fn add_sections(out: &mut String, words: &[u32]) -> fmt::Result
-    ensures { OnOk result (string_bytes out.new ≡ string_bytes out.old ++ five_lines words.now) }
-{
-    add_pairs(out, words)?;
-    add_section(out, words, 0, 1)?;
-    add_section(out, words, 2, 3)?;
-    add_section(out, words, 4, 5)?;
-    add_section(out, words, 6, 7)
+#[derive(Clone, Copy)]
+pub struct Sections<'a>(pub &'a [u32]);
+
+impl fmt::Display for Sections<'_> {
+    ghost output = { λ sections. Some (five_lines sections.0.now) };
+
+    fn fmt<W: fmt::Write>(&self, f: &mut fmt::Formatter<W>) -> fmt::Result {
+        let words = self.0;
+        let pairs = Words(pairs(words));
+        let counters = Words(section(words, 0, 1));
+        let identifiers = Words(section(words, 2, 3));
+        let scopes = Words(section(words, 4, 5));
+        let body = Words(section(words, 6, 7));
+        write!(f, "{pairs}\n{counters}\n{identifiers}\n{scopes}\n{body}\n")
+    }
 }

@@ -4,4 +4,4 @@ use Rattle.text.proofs.Saying.{Stands}
 use Rattle.text.proofs.read.words.Given as goal
 
 abbrev pub invariant-loop-byte : goal.invariant-loop-byte
-invariant-loop-byte l = Stands l.text (vec_items l.words) l.state l.at l.byte-index
+invariant-loop-byte l = Stands l.text (vec_items l.words) l.word l.at l.byte-index
