@@ -1,10 +1,11 @@
 -- A function with a yes to each question is well-formed, and no scope of it has a record.
 -- Each question gives its part.
 use Rattle.std.proofs.Common.{◌≡◌, true, ◌&&◌, List, [], ◌∷◌, None}
+use Rattle.std.specs.List.{list_all}
 use Rattle.semantics.specs.Targets.{nowhere}
 use Rattle.simulation.specs.WellFormed.{All, sizes, IdentifierOk, ScopeOk}
 use Rattle.questions.specs.declared.line.Line.{Line}
-use Rattle.questions.specs.Questions.{every, identifier_in, scope_in, unrecorded, table_fault, lines, bounds_of, out_of_range, out_of_shape, without_target, scoped_twice}
+use Rattle.questions.specs.Questions.{identifier_in, scope_in, unrecorded, table_fault, lines, bounds_of, out_of_range, out_of_shape, without_target, scoped_twice}
 use Rattle.loaded.specs.Loaded.{QuestionsSuffice}
 use Rattle.loaded.proofs.Tests.{both, append_empty, no_fault, passing, each, identifier, scope_of, no_record}
 use Rattle.loaded.proofs.Lines.{Well, well_b, aims_b}
@@ -17,9 +18,9 @@ each_well (l ∷ ls) n s = ((n.0, s.0), each_well ls n.1 s.1)
 pub questions_suffice : QuestionsSuffice
 unfolding out_of_range out_of_shape without_target scoped_twice
 questions_suffice F y =
-    let r = append_empty (table_fault (every (identifier_in (bounds_of F)) F.identifiers && every (scope_in (bounds_of F)) F.scopes)) _ y.in_range in
-    let t = both (every (identifier_in (bounds_of F)) F.identifiers) _ (no_fault _ r.0) in
-    let s = append_empty (table_fault (every (λ s. unrecorded s.early) F.scopes)) _ y.scoped_once in
+    let r = append_empty (table_fault (list_all (identifier_in (bounds_of F)) F.identifiers && list_all (scope_in (bounds_of F)) F.scopes)) _ y.in_range in
+    let t = both (list_all (identifier_in (bounds_of F)) F.identifiers) _ (no_fault _ r.0) in
+    let s = append_empty (table_fault (list_all (λ s. unrecorded s.early) F.scopes)) _ y.scoped_once in
     record {
       well_formed = record {
         identifiers_ok = each (identifier_in (bounds_of F)) (IdentifierOk (sizes F)) (identifier (sizes F)) F.identifiers t.0;

@@ -1,6 +1,7 @@
 -- A test with a yes is the fact that it tests: numbers below a bound, and as many places as a kind asks.
 -- No failing line means that each line passes.
 use Rattle.std.proofs.Common.{◌≡◌, ℕ, suc, ◌<◌, Bool, true, false, cond, ◌&&◌, ◌||◌, eqb, ltb, List, [], ◌∷◌, ◌++◌, length, Some, None, Option, refl, arith, ltb-true, eqb-true}
+use Rattle.std.specs.List.{list_all}
 use Rattle.hir.specs.declared.place.Place.{Place}
 use Rattle.hir.specs.declared.environment.Identifier.{Identifier}
 use Rattle.hir.specs.declared.environment.ReactiveScopeEarlyReturn.{ReactiveScopeEarlyReturn}
@@ -10,7 +11,7 @@ use Rattle.semantics.specs.Exec.{within_list}
 use Rattle.simulation.specs.WellFormed.{All, IfSome, Sizes, writes, reads, IdentifierOk, RecordOk, DeclarationOk, ScopeOk, PlaceOk, OpOk}
 use Rattle.questions.specs.declared.line.Bounds.{Bounds}
 use Rattle.questions.specs.declared.line.Line.{Line}
-use Rattle.questions.specs.Questions.{every, place_in, opt_place_in, ops_in, among, writes_well, reads_well, in_shape, opt_below, identifier_in, early_in, declaration_in, scope_in, unrecorded, failing, table_fault}
+use Rattle.questions.specs.Questions.{place_in, opt_place_in, ops_in, among, writes_well, reads_well, in_shape, opt_below, identifier_in, early_in, declaration_in, scope_in, unrecorded, failing, table_fault}
 
 pub both : (a b : Bool) → (a && b) ≡ true → (a ≡ true) × (b ≡ true)
 both true b e = (refl, e)
@@ -41,11 +42,11 @@ below x n e = let z = ltb-true x n e in omega arith
 abbrev pub bounds : Sizes → Bounds
 bounds Z = record { identifiers = Z.identifiers; scopes = Z.scopes; blocks = Z.blocks; types = Z.types; ranges = Z.ranges }
 
-pub each : {X : Type 0} (test : X → Bool) (P : X → Type 0) → ((x : X) → test x ≡ true → P x) → (xs : List X) → every test xs ≡ true → All P xs
+pub each : {X : Type 0} (test : X → Bool) (P : X → Type 0) → ((x : X) → test x ≡ true → P x) → (xs : List X) → list_all test xs ≡ true → All P xs
 each test P f [] e = tt
-each test P f (x ∷ xs) e = let p = both (test x) (every test xs) e in (f x p.0, each test P f xs p.1)
+each test P f (x ∷ xs) e = let p = both (test x) (list_all test xs) e in (f x p.0, each test P f xs p.1)
 
-places : (Z : Sizes) (ps : List Place) → every (place_in (bounds Z)) ps ≡ true → All (PlaceOk Z) ps
+places : (Z : Sizes) (ps : List Place) → list_all (place_in (bounds Z)) ps ≡ true → All (PlaceOk Z) ps
 places Z ps e = each (place_in (bounds Z)) (PlaceOk Z) (λ p h. below _ _ h) ps e
 
 pub target : (Z : Sizes) (o : Option Place) → opt_place_in (bounds Z) o ≡ true → IfSome (PlaceOk Z) o
@@ -88,8 +89,8 @@ reads_many k n e =
 pub operations : (Z : Sizes) (os : List Op) → ops_in (bounds Z) os ≡ true → in_shape os ≡ true → All (OpOk Z) os
 operations Z [] e d = tt
 operations Z (o ∷ os) e d =
-    let p = both (every (place_in (bounds Z)) o.written && every (place_in (bounds Z)) o.operands) _ e in
-    let q = both (every (place_in (bounds Z)) o.written) _ p.0 in
+    let p = both (list_all (place_in (bounds Z)) o.written && list_all (place_in (bounds Z)) o.operands) _ e in
+    let q = both (list_all (place_in (bounds Z)) o.written) _ p.0 in
     let r = both (writes_well o.kind (length o.written) && reads_well o.kind (length o.operands)) _ d in
     let s = both (writes_well o.kind (length o.written)) _ r.0 in (
       record { written_in = places Z o.written q.0; operands_in = places Z o.operands q.1; written_many = writes_many o.kind _ s.0; operands_many = reads_many o.kind _ s.1 },

@@ -1,43 +1,59 @@
 -- The rows of a block's statements and of a switch's cases, and a block at some depth as its row.
-use Rattle.std.proofs.Common.{◌≡◌, ℕ, zero, suc, ◌-◌, Bool, ◌≢◌, List, sym, refl, ap, ◌∙◌, arith}
+use Rattle.std.proofs.Common.{◌≡◌, ℕ, zero, suc, ◌-◌, ◌≢◌, List, Option, sym, refl, ap, ◌∙◌, arith}
+use Rattle.std.proofs.lemmas.Option.{none-some}
 use Rattle.hir.specs.declared.range.Range.{Range}
 use Rattle.hir.specs.declared.terminal.ReactiveSwitchCase.{ReactiveSwitchCase}
 use Rattle.hir.specs.Decode.{Slots, slot_of, body_of, opt_block_of, cases_of, block_of}
-use Rattle.hir.specs.Tree.{Block, nil, cons, knil, kcons}
+use Rattle.hir.specs.Tree.{Stmt, Cases, OptBlock, Block, nil, cons, knil, kcons}
 use Rattle.semantics.specs.Targets.{Around}
 use Rattle.questions.specs.declared.line.Bounds.{Bounds}
-use Rattle.questions.specs.declared.line.Findings.{Findings}
 use Rattle.questions.specs.declared.line.Line.{Line}
+use Rattle.questions.specs.declared.pass.Pass.{Pass}
 use Rattle.questions.specs.Own.{Decodes}
-use Rattle.questions.specs.Pass.{Outer}
+use Rattle.questions.specs.Pass.{Passed}
 use Rattle.questions.specs.Questions.{stmt_lines, block_lines, opt_block_lines, cases_lines}
 use Rattle.questions.specs.Rows.{body_in}
-use Rattle.questions.proofs.Row.{Rows, RowLeft}
-use Rattle.questions.proofs.Slots.{none_some}
+use Rattle.questions.proofs.Row.{Rows}
 
-pub block_rows : (B : Bounds) (d : ℕ) (a : Slots) (s : Around) → Rows (slot_of a (block_of d a)) (body_of (slot_of a (block_of d a))) (λ x. stmt_lines B x s) (λ b. block_lines B b s)
-block_rows B d a s = record { none = nil; join = λ k x b. cons x b; many_none = refl; many_more = λ k ks. refl; lines_none = refl; lines_more = λ k x b. refl }
+abbrev pub one_stmt : ℕ → Slots → ℕ → Option Stmt
+one_stmt d a k = slot_of a (block_of d a) k
 
-pub case_rows : (B : Bounds) (d : ℕ) (a : Slots) (s : Around) → Rows (λ (c : ReactiveSwitchCase). opt_block_of (block_of d a) c.block) (cases_of (block_of d a)) (λ b. opt_block_lines B b s) (λ cs. cases_lines B cs s)
-case_rows B d a s = record { none = knil; join = λ c b cs. kcons c.test b cs; many_none = refl; many_more = λ c cs. refl; lines_none = refl; lines_more = λ c b cs. refl }
+abbrev pub some_stmts : ℕ → Slots → List ℕ → Option Block
+some_stmts d a ks = body_of (slot_of a (block_of d a)) ks
 
--- the loops' invariants
-abbrev pub BlockLeft : Bounds → ℕ → Slots → Range → Around → Findings → List Bool → Findings → List Bool → ℕ → Type 0
-BlockLeft B d a r s f seen g marks i = RowLeft (slot_of a (block_of d a)) (body_of (slot_of a (block_of d a))) (λ x. stmt_lines B x s) (λ b. block_lines B b s) a.entries r f seen g marks i
+abbrev pub stmt_lines_in : Around → Bounds → Stmt → List Line
+stmt_lines_in s B x = stmt_lines B x s
 
-abbrev pub CasesLeft : Bounds → ℕ → Slots → Range → Around → Findings → List Bool → Findings → List Bool → ℕ → Type 0
-CasesLeft B d a r s f seen g marks i = RowLeft (λ (c : ReactiveSwitchCase). opt_block_of (block_of d a) c.block) (cases_of (block_of d a)) (λ b. opt_block_lines B b s) (λ cs. cases_lines B cs s) a.cases r f seen g marks i
+abbrev pub block_lines_in : Around → Bounds → Block → List Line
+block_lines_in s B b = block_lines B b s
+
+pub block_rows : (d : ℕ) (s : Around) (a : Slots) (B : Bounds) → Rows (one_stmt d a) (some_stmts d a) (stmt_lines_in s B) (block_lines_in s B)
+block_rows d s a B = record { none = nil; join = λ k x b. cons x b; many_none = refl; many_more = λ k ks. refl; lines_none = refl; lines_more = λ k x b. refl }
+
+abbrev pub one_case : ℕ → Slots → ReactiveSwitchCase → Option OptBlock
+one_case d a c = opt_block_of (block_of d a) c.block
+
+abbrev pub some_cases : ℕ → Slots → List ReactiveSwitchCase → Option Cases
+some_cases d a cs = cases_of (block_of d a) cs
+
+abbrev pub opt_block_lines_in : Around → Bounds → OptBlock → List Line
+opt_block_lines_in s B b = opt_block_lines B b s
+
+abbrev pub cases_lines_in : Around → Bounds → Cases → List Line
+cases_lines_in s B cs = cases_lines B cs s
+
+pub case_rows : (d : ℕ) (s : Around) (a : Slots) (B : Bounds) → Rows (one_case d a) (some_cases d a) (opt_block_lines_in s B) (cases_lines_in s B)
+case_rows d s a B = record { none = knil; join = λ c b cs. kcons c.test b cs; many_none = refl; many_more = λ c cs. refl; lines_none = refl; lines_more = λ c b cs. refl }
+
+-- ---- a block is its row, one level down
 
 pub block_deep : (d : ℕ) (a : Slots) (r : Range) → Decodes (block_of d a r) → d ≢ 0
-block_deep zero a r all = absurd (none_some all.is)
+block_deep zero a r all = absurd (none-some _ all.is)
 block_deep (suc d) a r all = omega arith
 
 block_opens : (d : ℕ) (a : Slots) (r : Range) → d ≢ 0 → block_of d a r ≡ body_in (d - 1) a r
 block_opens zero a r ne = absurd (ne refl)
 block_opens (suc d) a r ne = let same : d ≡ suc d - 1 = omega arith in ap (λ n. body_in n a r) same
 
-pub block_body : (d : ℕ) (a : Slots) (r : Range) → Decodes (block_of d a r) → Decodes (body_in (d - 1) a r)
-block_body d a r all = record { what = all.what; is = sym (block_opens d a r (block_deep d a r all)) ∙ all.is }
-
-pub block_whole : (d : ℕ) (a : Slots) (r : Range) (lines : Block → List Line) (f : Findings) (seen : List Bool) (g : Findings) (marks : List Bool) → d ≢ 0 → Outer (body_in (d - 1) a r) lines f seen g marks → Outer (block_of d a r) lines f seen g marks
-block_whole d a r lines f seen g marks ne o = record { by = λ x e. o.by x (sym (block_opens d a r ne) ∙ e) }
+pub block_whole : (d : ℕ) (a : Slots) (r : Range) (lines : Block → List Line) (p q : Pass) → d ≢ 0 → Passed (body_in (d - 1) a r) lines p q → Passed (block_of d a r) lines p q
+block_whole d a r lines p q ne h = record { kept = h.kept; by = λ x e. h.by x (sym (block_opens d a r ne) ∙ e) }

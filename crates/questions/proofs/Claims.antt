@@ -1,5 +1,7 @@
 -- The table of marks stands for the scopes that were seen, so the first scope claimed twice is the first that repeats.
 use Rattle.std.proofs.Common.{◌≡◌, ℕ, suc, ◌+◌, ◌<◌, ◌≤◌, Bool, true, false, cond, not, ◌||◌, ltb, List, [], ◌∷◌, length, get_or, set, replicate, Some, None, Option, sym, refl, ap, ◌∙◌, ap₂, inl, inr, arith, get_or-set_other, get_or-set_same}
+use Rattle.std.specs.List.{list_all}
+use Rattle.std.proofs.Math.Bool.{or-false}
 use lib.ListN.{length-replicate}
 use Rattle.std.proofs.lemmas.List.{length-set, get_or-replicate}
 use Rattle.std.proofs.lemmas.Bool.{ltb-true, lt-ltb, eq-eqb, ne_eqb, cases_eq, and_parts}
@@ -7,9 +9,9 @@ use Rattle.semantics.specs.Targets.{plus}
 use Rattle.questions.specs.declared.line.Bounds.{Bounds}
 use Rattle.questions.specs.declared.line.Findings.{Findings}
 use Rattle.questions.specs.declared.line.Line.{Line}
-use Rattle.questions.specs.Pass.{earliest, noted, notes, passed, fresh_line, marked}
-use Rattle.questions.specs.Questions.{every, among, opt_below, failing, first_owned, repeating}
-use Rattle.questions.proofs.Found.{or_first, earliest_first, found_in, counts_on}
+use Rattle.questions.specs.Findings.{earliest, fresh_line, marked, step, passed}
+use Rattle.questions.specs.Questions.{among, opt_below, failing, first_owned, repeating}
+use Rattle.questions.proofs.Found.{or_first, none_more, earliest_first, counts_on}
 use Rattle.questions.proofs.LinesOf.{owned_in}
 
 pub record Marks (seen : List Bool) (xs : List ℕ) : Type 0 where
@@ -35,17 +37,13 @@ marks_more seen xs (Some x) m h =
       ];
     }
 
-or_false : (b : Bool) → b ≡ (b || false)
-or_false true = refl
-or_false false = refl
-
 -- a statement whose numbers are in range owns, if any, a scope below 256
 owns_below : (B : Bounds) (l : Line) → B.scopes ≤ 256 → owned_in B l ≡ true → l.numbers ≡ true → opt_below l.owns 256 ≡ true
 owns_below B l h o n = go l.owns (ap (λ b. opt_below l.owns B.scopes || not b) (sym n) ∙ o)
   where
     go : (x : Option ℕ) → (opt_below x B.scopes || false) ≡ true → opt_below x 256 ≡ true
     go None e = refl
-    go (Some x) e = lt-ltb x 256 (omega (arith, ltb-true x B.scopes (or_false (ltb x B.scopes) ∙ e)))
+    go (Some x) e = lt-ltb x 256 (omega (arith, ltb-true x B.scopes (sym (or-false (ltb x B.scopes)) ∙ e)))
 
 none_failing : (t : Line → Bool) (n : ℕ) (l : Line) (ls : List Line) → failing t n (l ∷ ls) ≡ [] → (t l ≡ true) × (failing t (suc n) ls ≡ [])
 none_failing t n l ls e = go (t l) refl e
@@ -54,19 +52,14 @@ none_failing t n l ls e = go (t l) refl e
     go true is h = (is, ap (λ c. cond c (failing t (suc n) ls) (n ∷ failing t (suc n) ls)) (sym is) ∙ h)
     go false is h = absurd (let z : n ∷ failing t (suc n) ls ≡ [] = ap (λ c. cond c (failing t (suc n) ls) (n ∷ failing t (suc n) ls)) (sym is) ∙ h in let y : ◌≡◌ {A = ℕ} 0 1 = cc in omega arith)
 
-pub first_repeating : (B : Bounds) → B.scopes ≤ 256 → (ls : List Line) (f : Findings) (seen : List Bool) (xs : List ℕ) → f.next + length ls ≤ 4096 → Marks seen xs → every (owned_in B) ls ≡ true → failing (λ l. l.numbers) f.next ls ≡ []
-    → (found_in (passed ls (notes f seen))).scopes ≡ or_first f.scopes (repeating xs f.next ls)
-first_repeating B small [] f seen xs h m o n = none_more f.scopes
-  where
-    none_more : (z : Option ℕ) → z ≡ or_first z []
-    none_more None = refl
-    none_more (Some k) = refl
-first_repeating B small (l ∷ ls) f seen xs h m o n =
-    let fresh = fresh_line seen l.owns in
+pub first_repeating : (B : Bounds) → B.scopes ≤ 256 → (ls : List Line) (f : Findings) (xs : List ℕ) → f.next + length ls ≤ 4096 → Marks f.seen xs → list_all (owned_in B) ls ≡ true → failing (λ l. l.numbers) f.next ls ≡ []
+    → (passed ls f).scopes ≡ or_first f.scopes (repeating xs f.next ls)
+first_repeating B small [] f xs h m o n = none_more f.scopes
+first_repeating B small (l ∷ ls) f xs h m o n =
     let next = counts_on f.next (length ls) h in
     let w = none_failing (λ l. l.numbers) f.next l ls n in
-    let p = and_parts (owned_in B l) (every (owned_in B) ls) o in
+    let p = and_parts (owned_in B l) (list_all (owned_in B) ls) o in
     let below = owns_below B l small p.0 w.0 in
-    let rest = first_repeating B small ls (noted f l fresh) (marked seen l.owns) (plus l.owns xs) (omega (arith, next)) (marks_more seen xs l.owns m below) p.1 (ap (λ k. failing (λ l. l.numbers) k ls) next ∙ w.1) in
-    rest ∙ ap₂ (λ b k. or_first (earliest f.scopes b f.next) (repeating (plus l.owns xs) k ls)) (marks_fresh seen xs l.owns m below) next
+    let rest = first_repeating B small ls (step l f) (plus l.owns xs) (omega (arith, next)) (marks_more f.seen xs l.owns m below) p.1 (ap (λ k. failing (λ l. l.numbers) k ls) next ∙ w.1) in
+    rest ∙ ap₂ (λ b k. or_first (earliest f.scopes b f.next) (repeating (plus l.owns xs) k ls)) (marks_fresh f.seen xs l.owns m below) next
     ∙ earliest_first f.scopes (first_owned xs l.owns) f.next (repeating (plus l.owns xs) (suc f.next) ls)

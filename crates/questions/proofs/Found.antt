@@ -2,7 +2,7 @@
 use Rattle.std.proofs.Common.{◌≡◌, ℕ, suc, ◌+◌, ◌%◌, ◌≤◌, Bool, true, false, cond, List, [], ◌∷◌, length, Some, None, Option, refl, ◌∙◌, ap₂, arith}
 use Rattle.questions.specs.declared.line.Findings.{Findings}
 use Rattle.questions.specs.declared.line.Line.{Line}
-use Rattle.questions.specs.Pass.{earliest, noted, fresh_line, marked, Notes, notes, passed}
+use Rattle.questions.specs.Findings.{earliest, step, passed}
 use Rattle.questions.specs.Questions.{failing}
 
 -- what was found earlier, or else the first of a list
@@ -11,27 +11,23 @@ or_first (Some m) xs = Some m
 or_first None [] = None
 or_first None (x ∷ xs) = Some x
 
+pub none_more : (o : Option ℕ) → o ≡ or_first o []
+none_more None = refl
+none_more (Some m) = refl
+
 pub earliest_first : (o : Option ℕ) (well : Bool) (n : ℕ) (xs : List ℕ) → or_first (earliest o well n) xs ≡ or_first o (cond well xs (n ∷ xs))
 earliest_first (Some m) well n xs = refl
 earliest_first None true n xs = refl
 earliest_first None false n xs = refl
 
-abbrev pub found_in : Notes → Findings
-found_in (notes f seen) = f
-
 -- the count does not wrap
 pub counts_on : (n : ℕ) (ls : ℕ) → n + suc ls ≤ 4096 → (n + 1) % 4294967296 ≡ suc n
 counts_on n ls h = omega arith
 
-module _ (get : Findings → Option ℕ) (test : Line → Bool) (gets : (f : Findings) (l : Line) (fresh : Bool) → get (noted f l fresh) ≡ earliest (get f) (test l) f.next) where
-  pub first_failing : (ls : List Line) (f : Findings) (seen : List Bool) → f.next + length ls ≤ 4096 → get (found_in (passed ls (notes f seen))) ≡ or_first (get f) (failing test f.next ls)
-  first_failing [] f seen h = none_more (get f)
-    where
-      none_more : (o : Option ℕ) → o ≡ or_first o []
-      none_more None = refl
-      none_more (Some m) = refl
-  first_failing (l ∷ ls) f seen h =
-      let fresh = fresh_line seen l.owns in
+module _ (get : Findings → Option ℕ) (test : Line → Bool) (gets : (f : Findings) (l : Line) → get (step l f) ≡ earliest (get f) (test l) f.next) where
+  pub first_failing : (ls : List Line) (f : Findings) → f.next + length ls ≤ 4096 → get (passed ls f) ≡ or_first (get f) (failing test f.next ls)
+  first_failing [] f h = none_more (get f)
+  first_failing (l ∷ ls) f h =
       let next = counts_on f.next (length ls) h in
-      let rest = first_failing ls (noted f l fresh) (marked seen l.owns) (omega (arith, next)) in
-      rest ∙ ap₂ (λ o n. or_first o (failing test n ls)) (gets f l fresh) next ∙ earliest_first (get f) (test l) f.next (failing test (suc f.next) ls)
+      let rest = first_failing ls (step l f) (omega (arith, next)) in
+      rest ∙ ap₂ (λ o n. or_first o (failing test n ls)) (gets f l) next ∙ earliest_first (get f) (test l) f.next (failing test (suc f.next) ls)

@@ -1,10 +1,9 @@
-pub mod Every
 pub mod Slots
+pub mod Deepest
 pub mod ValueParts
-pub mod Row
 pub mod Passing
-pub mod Optional
-pub mod Stacked
+pub mod Row
+pub mod InstrRow
 pub mod TermParts
 pub mod BlockRow
 pub mod StatementParts

@@ -1,13 +1,15 @@
 -- The lines of a function: as many as its statements, and a Scope block whose numbers are in range owns a scope of the table.
-use Rattle.std.proofs.Common.{◌≡◌, ℕ, ◌+◌, Bool, true, false, not, ◌&&◌, ◌||◌, ltb, List, [], ◌∷◌, ◌++◌, length, Some, None, Option, sym, refl, ap, ◌∙◌, ap₂, arith, length-append}
+use Rattle.std.proofs.Common.{◌≡◌, ℕ, ◌+◌, Bool, true, not, ◌&&◌, ◌||◌, ltb, List, [], ◌∷◌, ◌++◌, length, Some, None, Option, refl, ◌∙◌, ap₂, arith, length-append}
+use Rattle.std.specs.List.{list_all}
+use Rattle.std.proofs.Math.Bool.{or-not_self}
+use Rattle.std.proofs.lemmas.List.Folds.{list_all-append}
 use Rattle.hir.specs.declared.place.Place.{Place}
 use Rattle.hir.specs.Sizes.{val_size, instr_size, instrs_size, opt_val_size, opt_place_size, stmt_size, term_size, cases_size, opt_block_size, block_size}
 use Rattle.hir.specs.Tree.{Val, operation, logical, conditional, sequence, optional, OptVal, no_val, some_val, Instr, instr, Instrs, inil, icons, Stmt, instruction, scope, pruned, terminal, Term, break, continue, return, throw, switch, do_while, while, for, for_of, for_in, if, label, try, Cases, knil, kcons, OptBlock, no_block, some_block, Block, nil, cons}
 use Rattle.semantics.specs.Targets.{Around, mark, mark_inside, labelled, in_switch, in_loop}
 use Rattle.questions.specs.declared.line.Bounds.{Bounds}
 use Rattle.questions.specs.declared.line.Line.{Line}
-use Rattle.questions.specs.Questions.{every, opt_below, val_lines, instr_lines, instrs_lines, opt_val_lines, stmt_lines, term_lines, cases_lines, opt_block_lines, block_lines}
-use Rattle.questions.proofs.ValueParts.{and_assoc}
+use Rattle.questions.specs.Questions.{opt_below, val_lines, instr_lines, instrs_lines, opt_val_lines, stmt_lines, term_lines, cases_lines, opt_block_lines, block_lines}
 
 -- n lines, each of which owns a scope of the table unless its numbers are out of range
 abbrev pub owned_in : Bounds → Line → Bool
@@ -15,21 +17,13 @@ owned_in B l = opt_below l.owns B.scopes || not l.numbers
 
 pub record Lines (B : Bounds) (ls : List Line) (n : ℕ) : Type 0 where
   pub long : length ls ≡ n
-  pub owned : every (owned_in B) ls ≡ true
-
-every_append : (t : Line → Bool) (xs ys : List Line) → every t (xs ++ ys) ≡ (every t xs && every t ys)
-every_append t [] ys = refl
-every_append t (x ∷ xs) ys = ap (λ b. t x && b) (every_append t xs ys) ∙ sym (and_assoc (t x) (every t xs) (every t ys))
-
-or_not : (b : Bool) → (b || not b) ≡ true
-or_not true = refl
-or_not false = refl
+  pub owned : list_all (owned_in B) ls ≡ true
 
 none : {B : Bounds} → Lines B [] 0
 none = record { long = refl; owned = refl }
 
 both : {B : Bounds} {xs ys : List Line} {m n : ℕ} → Lines B xs m → Lines B ys n → Lines B (xs ++ ys) (m + n)
-both {B} {xs} {ys} {m} {n} p q = record { long = length-append xs ys ∙ ap₂ ◌+◌ p.long q.long; owned = every_append (owned_in B) xs ys ∙ ap₂ ◌&&◌ p.owned q.owned }
+both {B} {xs} {ys} {m} {n} p q = record { long = length-append xs ys ∙ ap₂ ◌+◌ p.long q.long; owned = list_all-append (owned_in B) xs ys ∙ ap₂ ◌&&◌ p.owned q.owned }
 
 more : {B : Bounds} (l : Line) {xs : List Line} {n : ℕ} → owned_in B l ≡ true → Lines B xs n → Lines B (l ∷ xs) (1 + n)
 more {B} l {xs} {n} o p = record { long = (let e = p.long in omega arith); owned = ap₂ ◌&&◌ o p.owned }
@@ -64,7 +58,7 @@ mutual
   stmt_count : (B : Bounds) (x : Stmt) (s : Around) → Lines B (stmt_lines B x s) (1 + (stmt_size x).statements)
   stmt_count B (instruction i) s = instr_count B i
   stmt_count B (terminal t m) s = more _ refl (term_count B t (mark m) (labelled (mark_inside t m) s))
-  stmt_count B (scope x b) s = more _ (or_not (ltb x B.scopes)) (block_count B b s)
+  stmt_count B (scope x b) s = more _ (or-not_self (ltb x B.scopes)) (block_count B b s)
   stmt_count B (pruned x b) s = more _ refl (block_count B b s)
 
   term_count : (B : Bounds) (t : Term) (m : Option ℕ) (s : Around) → Lines B (term_lines B t m s) (term_size t).statements

@@ -1,12 +1,13 @@
 -- Declarations in one table, asked once each, are those of the scopes' lists.
 use Rattle.std.proofs.Common.{◌≡◌, ℕ, zero, suc, ◌+◌, ◌<◌, ◌≤◌, Bool, true, false, cond, ◌&&◌, ◌||◌, eqb, ltb, ◌⊎◌, List, [], ◌∷◌, length, sym, refl, ap, ◌∙◌, ap₂, inl, inr, arith}
+use Rattle.std.specs.List.{list_all}
 use Rattle.std.proofs.lemmas.Bool.{lt-ltb, le-ltb, eq-eqb, ne_eqb, cases_lt, cases_eq, or_left, or_right, or_from}
 use Rattle.hir.specs.declared.environment.Declared.{Declared}
 use Rattle.hir.specs.declared.environment.ReactiveScope.{ReactiveScope}
 use Rattle.hir.specs.Held.{owned, scopes_from}
 use Rattle.hir.specs.Tree.{ScopeInfo}
 use Rattle.questions.specs.declared.line.Bounds.{Bounds}
-use Rattle.questions.specs.Questions.{every, early_in, declaration_in, scope_in, unrecorded}
+use Rattle.questions.specs.Questions.{early_in, declaration_in, scope_in, unrecorded}
 use Rattle.questions.specs.Tables.{declared_in}
 
 -- is o among the n scopes from x on?
@@ -48,21 +49,21 @@ module _ (B : Bounds) where
   split false true false false r = refl
   split false false p e r = refl
 
-  swap_in : (b : Bool) (d : Declared) (ds : List Declared) (x : ℕ) → eqb d.owner x ≡ b → every (declaration_in B) (owned x (d ∷ ds)) ≡ cond b (declaration_in B d.declaration && every (declaration_in B) (owned x ds)) (every (declaration_in B) (owned x ds))
-  swap_in true d ds x e = ap (λ t. every (declaration_in B) (cond t (d.declaration ∷ owned x ds) (owned x ds))) e
-  swap_in false d ds x e = ap (λ t. every (declaration_in B) (cond t (d.declaration ∷ owned x ds) (owned x ds))) e
+  swap_in : (b : Bool) (d : Declared) (ds : List Declared) (x : ℕ) → eqb d.owner x ≡ b → list_all (declaration_in B) (owned x (d ∷ ds)) ≡ cond b (declaration_in B d.declaration && list_all (declaration_in B) (owned x ds)) (list_all (declaration_in B) (owned x ds))
+  swap_in true d ds x e = ap (λ t. list_all (declaration_in B) (cond t (d.declaration ∷ owned x ds) (owned x ds))) e
+  swap_in false d ds x e = ap (λ t. list_all (declaration_in B) (cond t (d.declaration ∷ owned x ds) (owned x ds))) e
 
-  asked_split : (x n : ℕ) (ds : List Declared) → every (asked x (suc n)) ds ≡ (every (declaration_in B) (owned x ds) && every (asked (suc x) n) ds)
+  asked_split : (x n : ℕ) (ds : List Declared) → list_all (asked x (suc n)) ds ≡ (list_all (declaration_in B) (owned x ds) && list_all (asked (suc x) n) ds)
   asked_split x n [] = refl
   asked_split x n (d ∷ ds) =
       let p = declaration_in B d.declaration in
-      let e = every (declaration_in B) (owned x ds) in
-      let r = every (asked (suc x) n) ds in
+      let e = list_all (declaration_in B) (owned x ds) in
+      let r = list_all (asked (suc x) n) ds in
       ap (λ t. cond (eqb d.owner x || in_row (suc x) n d.owner) p true && t) (asked_split x n ds)
       ∙ split (eqb d.owner x) (in_row (suc x) n d.owner) p e r
       ∙ ap (λ t. t && (cond (in_row (suc x) n d.owner) p true && r)) (sym (swap_in (eqb d.owner x) d ds x refl))
 
-  asked_none : (x : ℕ) (ds : List Declared) → every (asked x zero) ds ≡ true
+  asked_none : (x : ℕ) (ds : List Declared) → list_all (asked x zero) ds ≡ true
   asked_none x [] = refl
   asked_none x (d ∷ ds) = asked_none x ds
 
@@ -72,24 +73,24 @@ module _ (B : Bounds) where
   shuffle true false false d = refl
   shuffle false e r d = refl
 
-  scopes_asked : (x : ℕ) (ss : List ReactiveScope) (ds : List Declared) → every (scope_in B) (scopes_from x ss ds) ≡ (every (λ (s : ReactiveScope). early_in B s.early) ss && every (asked x (length ss)) ds)
+  scopes_asked : (x : ℕ) (ss : List ReactiveScope) (ds : List Declared) → list_all (scope_in B) (scopes_from x ss ds) ≡ (list_all (λ (s : ReactiveScope). early_in B s.early) ss && list_all (asked x (length ss)) ds)
   scopes_asked x [] ds = sym (asked_none x ds)
   scopes_asked x (s ∷ ss) ds =
-      ap (λ t. (early_in B s.early && every (declaration_in B) (owned x ds)) && t) (scopes_asked (suc x) ss ds)
-      ∙ shuffle (early_in B s.early) (every (declaration_in B) (owned x ds)) (every (λ (s : ReactiveScope). early_in B s.early) ss) (every (asked (suc x) (length ss)) ds)
-      ∙ ap (λ t. (early_in B s.early && every (λ (s : ReactiveScope). early_in B s.early) ss) && t) (sym (asked_split x (length ss) ds))
+      ap (λ t. (early_in B s.early && list_all (declaration_in B) (owned x ds)) && t) (scopes_asked (suc x) ss ds)
+      ∙ shuffle (early_in B s.early) (list_all (declaration_in B) (owned x ds)) (list_all (λ (s : ReactiveScope). early_in B s.early) ss) (list_all (asked (suc x) (length ss)) ds)
+      ∙ ap (λ t. (early_in B s.early && list_all (λ (s : ReactiveScope). early_in B s.early) ss) && t) (sym (asked_split x (length ss) ds))
 
-  asked_declared : (n : ℕ) (ds : List Declared) → n ≡ B.scopes → every (asked 0 n) ds ≡ every (declared_in B) ds
+  asked_declared : (n : ℕ) (ds : List Declared) → n ≡ B.scopes → list_all (asked 0 n) ds ≡ list_all (declared_in B) ds
   asked_declared n [] e = refl
   asked_declared n (d ∷ ds) e = ap₂ (λ t r. cond t (declaration_in B d.declaration) true && r) (row_from_0 n d.owner ∙ ap (ltb d.owner) e) (asked_declared n ds e)
 
-  pub scopes_declared : (ss : List ReactiveScope) (ds : List Declared) → length ss ≡ B.scopes → (every (λ (s : ReactiveScope). early_in B s.early) ss && every (declared_in B) ds) ≡ every (scope_in B) (scopes_from 0 ss ds)
-  scopes_declared ss ds e = sym (scopes_asked 0 ss ds ∙ ap (λ t. every (λ (s : ReactiveScope). early_in B s.early) ss && t) (asked_declared (length ss) ds e))
+  pub scopes_declared : (ss : List ReactiveScope) (ds : List Declared) → length ss ≡ B.scopes → (list_all (λ (s : ReactiveScope). early_in B s.early) ss && list_all (declared_in B) ds) ≡ list_all (scope_in B) (scopes_from 0 ss ds)
+  scopes_declared ss ds e = sym (scopes_asked 0 ss ds ∙ ap (λ t. list_all (λ (s : ReactiveScope). early_in B s.early) ss && t) (asked_declared (length ss) ds e))
 
 pub scopes_long : (x : ℕ) (ss : List ReactiveScope) (ds : List Declared) → length (scopes_from x ss ds) ≡ length ss
 scopes_long x [] ds = refl
 scopes_long x (s ∷ ss) ds = ap suc (scopes_long (suc x) ss ds)
 
-pub scopes_recordless : (x : ℕ) (ss : List ReactiveScope) (ds : List Declared) → every (λ (s : ReactiveScope). unrecorded s.early) ss ≡ every (λ (s : ScopeInfo). unrecorded s.early) (scopes_from x ss ds)
+pub scopes_recordless : (x : ℕ) (ss : List ReactiveScope) (ds : List Declared) → list_all (λ (s : ReactiveScope). unrecorded s.early) ss ≡ list_all (λ (s : ScopeInfo). unrecorded s.early) (scopes_from x ss ds)
 scopes_recordless x [] ds = refl
 scopes_recordless x (s ∷ ss) ds = ap (λ t. unrecorded s.early && t) (scopes_recordless (suc x) ss ds)

@@ -1,4 +1,5 @@
 pub mod Questions
+pub mod Findings
 pub mod Pass
 pub mod Own
 pub mod Rows

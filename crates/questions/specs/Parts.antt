@@ -1,5 +1,6 @@
 -- The parts of each terminal, and what a terminal's answers and lines are by its parts. Assumes nothing.
 use Rattle.std.specs.Prelude.{◌≡◌, ℕ, Bool, ◌&&◌, List, ◌++◌, take, drop, Some, None, Option}
+use Rattle.std.specs.List.{list_all}
 use Rattle.hir.specs.declared.place.Place.{Place}
 use Rattle.hir.specs.declared.range.Range.{Range}
 use Rattle.hir.specs.declared.terminal.ReactiveLabel.{ReactiveLabel}
@@ -11,34 +12,35 @@ use Rattle.hir.specs.Tree.{Op}
 use Rattle.semantics.specs.Targets.{Around}
 use Rattle.questions.specs.declared.around.Inside.TheVariants.{Plain, Switch, Loop}
 use Rattle.questions.specs.declared.around.Jump.{Jump}
-use Rattle.questions.specs.declared.around.Jump.TheVariants.{Nowhere, Break, Continue}
+use Rattle.questions.specs.declared.around.Jump.TheVariants.{Break, Continue}
 use Rattle.questions.specs.declared.line.Bounds.{Bounds}
-use Rattle.questions.specs.declared.line.Findings.{Findings}
 use Rattle.questions.specs.declared.line.Line.{Line}
 use Rattle.questions.specs.declared.operations.Own.{Own}
 use Rattle.questions.specs.declared.parts.Parts.{Parts}
-use Rattle.questions.specs.Around.{jump_aims, jump_in}
+use Rattle.questions.specs.declared.pass.Pass.{Pass}
+use Rattle.questions.specs.Around.{opt_jump_aims, opt_jump_in}
 use Rattle.questions.specs.Own.{Decodes, own_of}
-use Rattle.questions.specs.Pass.{passed, notes}
-use Rattle.questions.specs.Questions.{every, opt_place_in, label_in, opt_val_ops, opt_val_lines}
+use Rattle.questions.specs.Findings.{passed}
+use Rattle.questions.specs.Pass.{Kept, values_in}
+use Rattle.questions.specs.Questions.{opt_place_in, label_in, opt_val_ops, opt_val_lines}
 
 -- without values and blocks
-abbrev pub bare : Option Place → Jump → Parts
+abbrev pub bare : Option Place → Option Jump → Parts
 bare p j = record { place = p; jump = j; inside = Plain; leading = None; init = None; test = None; update = None; block = None; other = None; cases = record { start = 0; count = 0 } }
 
 -- with blocks that are no loop's
 abbrev pub holding : Option Place → Option Range → Option Range → Parts
-holding p b c = record { place = p; jump = Nowhere; inside = Plain; leading = None; init = None; test = None; update = None; block = b; other = c; cases = record { start = 0; count = 0 } }
+holding p b c = record { place = p; jump = None; inside = Plain; leading = None; init = None; test = None; update = None; block = b; other = c; cases = record { start = 0; count = 0 } }
 
 abbrev pub looping : Option Range → Option ℕ → Option ℕ → Option ℕ → Option Range → Parts
-looping l i t u b = record { place = None; jump = Nowhere; inside = Loop; leading = l; init = i; test = t; update = u; block = b; other = None; cases = record { start = 0; count = 0 } }
+looping l i t u b = record { place = None; jump = None; inside = Loop; leading = l; init = i; test = t; update = u; block = b; other = None; cases = record { start = 0; count = 0 } }
 
 abbrev pub parts_of : ReactiveTerminal → Parts
-parts_of (R.Break l i k) = bare None (Break l k)
-parts_of (R.Continue l i k) = bare None (Continue l k)
-parts_of (R.Return p i) = bare (Some p) Nowhere
-parts_of (R.Throw p i) = bare (Some p) Nowhere
-parts_of (R.Switch p cs i) = record { place = Some p; jump = Nowhere; inside = Switch; leading = None; init = None; test = None; update = None; block = None; other = None; cases = cs }
+parts_of (R.Break l i k) = bare None (Some (Break l k))
+parts_of (R.Continue l i k) = bare None (Some (Continue l k))
+parts_of (R.Return p i) = bare (Some p) None
+parts_of (R.Throw p i) = bare (Some p) None
+parts_of (R.Switch p cs i) = record { place = Some p; jump = None; inside = Switch; leading = None; init = None; test = None; update = None; block = None; other = None; cases = cs }
 parts_of (R.DoWhile b v i) = looping (Some b) None (Some v) None None
 parts_of (R.While v b i) = looping None None (Some v) None (Some b)
 parts_of (R.For n v u b i) = looping None (Some n) (Some v) u (Some b)
@@ -65,15 +67,19 @@ abbrev pub row_cases : Slots → Parts → List ReactiveSwitchCase
 row_cases a p = take p.cases.count (drop p.cases.start a.cases)
 
 abbrev pub tests_well : Bounds → List ReactiveSwitchCase → Bool
-tests_well B cs = every (λ c. opt_place_in B c.test) cs
+tests_well B cs = list_all (λ c. opt_place_in B c.test) cs
+
+-- are the numbers of a terminal's parts in range, without its label's?
+abbrev pub parts_in : Bounds → Parts → List ReactiveSwitchCase → Bool
+parts_in B p cs = opt_place_in B p.place && (opt_jump_in B p.jump && tests_well B cs)
 
 -- a terminal's answers: m is its label, os the operations of its values
 abbrev pub parts_line : Bounds → Parts → Option ReactiveLabel → Around → List ReactiveSwitchCase → Own → Line
 parts_line B p m a cs o =
     record {
-      numbers = label_in B m && ((opt_place_in B p.place && (jump_in B p.jump && tests_well B cs)) && o.numbers);
+      numbers = (label_in B m && parts_in B p cs) && o.numbers;
       shapes = o.shapes;
-      targets = jump_aims p.jump a;
+      targets = opt_jump_aims p.jump a;
       owns = None;
     }
 
@@ -81,6 +87,7 @@ parts_line B p m a cs o =
 pub record OwnValues (a : ValueSlots) (p : Parts) (B : Bounds) (r : Own) : Type 0 where
   pub of : (d : ValuesIn a p) → r ≡ own_of B (values_ops d)
 
--- the findings f, after the statements inside the values, are r
-pub record PassedValues (a : ValueSlots) (p : Parts) (B : Bounds) (f r : Findings) : Type 0 where
-  pub by : (d : ValuesIn a p) (seen : List Bool) → passed (values_lines B d) (notes f seen) ≡ notes r seen
+-- the statements inside the values are passed over
+pub record PassedValues (p : Parts) (before after : Pass) : Type 0 where
+  pub kept : Kept before after
+  pub by : (d : ValuesIn (values_in before) p) → after.found ≡ passed (values_lines before.bounds d) before.found

@@ -1,5 +1,6 @@
 -- What is asked of a function that was read, and which statements have a no. Assumes nothing.
 use Rattle.std.specs.Prelude.{ℕ, suc, Bool, true, false, cond, not, ◌&&◌, ◌||◌, List, [], ◌∷◌, ◌++◌, length, Some, None, Option, ◌==◌, nat_lt}
+use Rattle.std.specs.List.{list_all}
 use Rattle.hir.specs.declared.place.Place.{Place}
 use Rattle.hir.specs.declared.terminal.ReactiveLabel.{ReactiveLabel}
 use Rattle.hir.specs.declared.environment.Identifier.{Identifier}
@@ -20,10 +21,6 @@ bounds_of F =
       ranges = F.counters.ranges;
     }
 
-abbrev pub every : {X : Type 0} → (X → Bool) → List X → Bool
-every test [] = true
-every test (x ∷ xs) = test x && every test xs
-
 -- ---- identifiers in their table, labels and targets below the counter of blocks
 
 abbrev pub place_in : Bounds → Place → Bool
@@ -33,9 +30,11 @@ abbrev pub opt_place_in : Bounds → Option Place → Bool
 opt_place_in B None = true
 opt_place_in B (Some p) = place_in B p
 
+abbrev pub op_in : Bounds → Op → Bool
+op_in B o = list_all (place_in B) o.written && list_all (place_in B) o.operands
+
 abbrev pub ops_in : Bounds → List Op → Bool
-ops_in B [] = true
-ops_in B (o ∷ os) = (every (place_in B) o.written && every (place_in B) o.operands) && ops_in B os
+ops_in B os = list_all (op_in B) os
 
 -- an implicit label too
 abbrev pub label_in : Bounds → Option ReactiveLabel → Bool
@@ -76,9 +75,11 @@ writes_well k n = cond (among k (2 ∷ 3 ∷ 4 ∷ 5 ∷ 37 ∷ 38 ∷ [])) (n =
 abbrev pub reads_well : ℕ → ℕ → Bool
 reads_well k n = cond (among k (0 ∷ 1 ∷ 4 ∷ 37 ∷ 38 ∷ [])) (n == 1) (cond (k == 5) (n == 2) (cond (among k (2 ∷ 3 ∷ [])) (n == 0) true))
 
+abbrev pub shaped : Op → Bool
+shaped o = writes_well o.kind (length o.written) && reads_well o.kind (length o.operands)
+
 abbrev pub in_shape : List Op → Bool
-in_shape [] = true
-in_shape (o ∷ os) = (writes_well o.kind (length o.written) && reads_well o.kind (length o.operands)) && in_shape os
+in_shape os = list_all shaped os
 
 -- ---- the operations of a statement's own
 
@@ -210,7 +211,7 @@ abbrev pub declaration_in : Bounds → ReactiveScopeDeclaration → Bool
 declaration_in B d = nat_lt d.key B.identifiers && (nat_lt d.identifier B.identifiers && nat_lt d.scope B.scopes)
 
 abbrev pub scope_in : Bounds → ScopeInfo → Bool
-scope_in B s = early_in B s.early && every (declaration_in B) s.declarations
+scope_in B s = early_in B s.early && list_all (declaration_in B) s.declarations
 
 abbrev pub unrecorded : Option ReactiveScopeEarlyReturn → Bool
 unrecorded None = true
@@ -242,7 +243,7 @@ lines F = block_lines (bounds_of F) F.body nowhere
 
 -- are identifiers, declarations and scopes in their tables, and types, ranges, labels and targets below their counters?
 unfoldable pub out_of_range : Function → List ℕ
-out_of_range F = table_fault (every (identifier_in (bounds_of F)) F.identifiers && every (scope_in (bounds_of F)) F.scopes) ++ failing (λ l. l.numbers) 0 (lines F)
+out_of_range F = table_fault (list_all (identifier_in (bounds_of F)) F.identifiers && list_all (scope_in (bounds_of F)) F.scopes) ++ failing (λ l. l.numbers) 0 (lines F)
 
 -- has every operation the written places and the operands that its kind asks?
 unfoldable pub out_of_shape : Function → List ℕ
@@ -254,4 +255,4 @@ without_target F = failing (λ l. l.targets) 0 (lines F)
 
 -- has every scope no record and at most one Scope block?
 unfoldable pub scoped_twice : Function → List ℕ
-scoped_twice F = table_fault (every (λ s. unrecorded s.early) F.scopes) ++ repeating [] 0 (lines F)
+scoped_twice F = table_fault (list_all (λ s. unrecorded s.early) F.scopes) ++ repeating [] 0 (lines F)

@@ -1,176 +1,106 @@
 // Blocks, their statements and what is inside them, in file order.
-ghost use Rattle.std.specs.Prelude.{◌≡◌, ◌+◌};
-ghost use Rattle.questions.specs.Around.{around_of, Room};
+ghost use Rattle.std.specs.Prelude.{◌≡◌};
+ghost use Rattle.questions.specs.Around.{around_of};
 ghost use Rattle.questions.specs.Own.{Decodes};
-ghost use Rattle.questions.specs.Pass.{Outer};
+ghost use Rattle.questions.specs.Pass.{Passed};
 ghost use Rattle.questions.specs.Questions.{block_lines, opt_block_lines, cases_lines, stmt_lines, scope_line};
 ghost use Rattle.questions.specs.Rows.{block_at, optional_at, cases_at, terminal_at, statement_at, labelled_lines};
 
 use crate::around::Around;
-use crate::line::{Bounds, Findings, Line, claim, note};
+use crate::line::{Bounds, Line};
 use crate::parts::view;
-use crate::terminals::{terminal_line, values_inside, values_own};
-use crate::values::top_instruction;
-use hir::arena::Arena;
+use crate::pass::Pass;
 use hir::range::Range;
 use hir::statement::ReactiveStatement;
 use hir::terminal::{ReactiveBlock, ReactiveTerminalStatement};
 
-// The answers of a Scope block, or of a pruned one, which owns no scope.
-fn scope_line(scope: u32, owns: Option<u32>, bounds: Bounds) -> Line
-    ensures { result ≡ scope_line bounds scope owns }
-{
-    Line {
-        numbers: scope < bounds.scopes,
-        shapes: true,
-        targets: true,
-        owns,
-    }
-}
-
-// A block that may be missing.
-#[cycle(blocks)]
-fn optional(
-    arena: &Arena,
-    inner: Option<ReactiveBlock>,
-    depth: u32,
-    around: &Around,
-    bounds: Bounds,
-    seen: &mut [bool],
-    found: Findings,
-) -> Findings
-    requires decodes { Decodes (optional_at depth arena.now inner) }
-    requires room { Room around.now depth }
-    ensures { Outer (optional_at depth arena.now inner) (λ b. opt_block_lines bounds b (around_of around.now)) found seen.old result seen.new }
-{
-    match inner {
-        Some(inner) => block(arena, inner, depth, around, bounds, seen, found),
-        None => found,
-    }
-}
-
-// The blocks of a switch.
-#[cycle(blocks)]
-fn cases(
-    arena: &Arena,
-    row: Range,
-    depth: u32,
-    around: &Around,
-    bounds: Bounds,
-    seen: &mut [bool],
-    found: Findings,
-) -> Findings
-    requires decodes { Decodes (cases_at depth arena.now row) }
-    requires room { Room around.now depth }
-    ensures { Outer (cases_at depth arena.now row) (λ b. cases_lines bounds b (around_of around.now)) found seen.old result seen.new }
-{
-    let start = row.start as usize;
-    let mut found = found;
-    for i in 0..row.count as usize {
-        let case = arena.cases[start + i];
-        found = optional(arena, case.block, depth, around, bounds, seen, found);
-    }
-    found
-}
-
-// A terminal with all that is inside it. What stands around its own jump is without its label.
-#[cycle(blocks)]
-fn terminal(
-    arena: &Arena,
-    shown: ReactiveTerminalStatement,
-    depth: u32,
-    around: &Around,
-    bounds: Bounds,
-    seen: &mut [bool],
-    found: Findings,
-) -> Findings
-    requires decodes { Decodes (terminal_at depth arena.now shown.terminal) }
-    requires room { Room around.now (depth + 1) }
-    ensures { Outer (terminal_at depth arena.now shown.terminal) (labelled_lines bounds shown.label (around_of around.now)) found seen.old result seen.new }
-{
-    let parts = view(shown.terminal);
-    let own = values_own(&arena.inner, parts, bounds);
-    let line = terminal_line(arena, parts, shown.label, own, around, bounds);
-    let noted = note(found, line, true);
-    let inner = around.inside(shown.label, parts.inside);
-    let led = optional(arena, parts.leading, depth, &inner, bounds, seen, noted);
-    let valued = values_inside(&arena.inner, parts, bounds, led);
-    let entered = optional(arena, parts.block, depth, &inner, bounds, seen, valued);
-    let handled = optional(arena, parts.other, depth, &inner, bounds, seen, entered);
-    cases(arena, parts.cases, depth, &inner, bounds, seen, handled)
-}
-
-// The statement in a slot, with all that is inside it.
-#[cycle(blocks)]
-fn statement(
-    arena: &Arena,
-    slot: u32,
-    depth: u32,
-    around: &Around,
-    bounds: Bounds,
-    seen: &mut [bool],
-    found: Findings,
-) -> Findings
-    requires decodes { Decodes (statement_at depth arena.now slot) }
-    requires room { Room around.now (depth + 1) }
-    ensures { Outer (statement_at depth arena.now slot) (λ s. stmt_lines bounds s (around_of around.now)) found seen.old result seen.new }
-{
-    match arena.statements[slot as usize] {
-        ReactiveStatement::Instruction(top) => top_instruction(&arena.inner, top, bounds, found),
-        ReactiveStatement::Terminal(shown) => {
-            terminal(arena, shown, depth, around, bounds, seen, found)
-        }
-        ReactiveStatement::Scope(shown) => {
-            let fresh = claim(seen, shown.scope);
-            let line = scope_line(shown.scope, Some(shown.scope), bounds);
-            let noted = note(found, line, fresh);
-            block(
-                arena,
-                shown.instructions,
-                depth,
-                around,
-                bounds,
-                seen,
-                noted,
-            )
-        }
-        ReactiveStatement::PrunedScope(shown) => {
-            let line = scope_line(shown.scope, None, bounds);
-            let noted = note(found, line, true);
-            block(
-                arena,
-                shown.instructions,
-                depth,
-                around,
-                bounds,
-                seen,
-                noted,
-            )
+impl Bounds {
+    // The answers of a Scope block, or of a pruned one, which owns no scope.
+    fn scope(self, scope: u32, owns: Option<u32>) -> Line
+        ensures { result ≡ scope_line self scope owns }
+    {
+        Line {
+            numbers: scope < self.scopes,
+            shapes: true,
+            targets: true,
+            owns,
         }
     }
 }
 
-// A block at most `depth` deep. `seen` marks the scopes whose Scope blocks came earlier.
-#[cycle(blocks)]
-pub fn block(
-    arena: &Arena,
-    row: ReactiveBlock,
-    depth: u32,
-    around: &Around,
-    bounds: Bounds,
-    seen: &mut [bool],
-    found: Findings,
-) -> Findings
-    requires decodes { Decodes (block_at depth arena.now row) }
-    requires room { Room around.now depth }
-    ensures { Outer (block_at depth arena.now row) (λ b. block_lines bounds b (around_of around.now)) found seen.old result seen.new }
-{
-    let start = row.start as usize;
-    let inner = depth - 1;
-    let mut found = found;
-    for i in 0..row.count as usize {
-        let slot = arena.entries[start + i];
-        found = statement(arena, slot, inner, around, bounds, seen, found);
+// A Scope block takes a level of the depth and adds nothing around, so the two are no one value.
+impl Pass<'_> {
+    // A block that may be missing.
+    #[cycle(blocks)]
+    fn optional(&mut self, block: Option<ReactiveBlock>, depth: u32, around: &Around<'_>)
+        requires { Decodes (optional_at depth self.old block) }
+        ensures { Passed (optional_at depth self.old block) (λ b. opt_block_lines self.old.bounds b (around_of around.now)) self.old self.new }
+    {
+        if let Some(block) = block {
+            self.block(block, depth, around);
+        }
     }
-    found
+
+    // The blocks of a switch.
+    #[cycle(blocks)]
+    fn cases(&mut self, cases: Range, depth: u32, around: &Around<'_>)
+        requires { Decodes (cases_at depth self.old cases) }
+        ensures { Passed (cases_at depth self.old cases) (λ b. cases_lines self.old.bounds b (around_of around.now)) self.old self.new }
+    {
+        let arena = self.arena;
+        for case in arena.cases.table.row(cases) {
+            self.optional(case.block, depth, around);
+        }
+    }
+
+    // A terminal with all that is inside it. What stands around its own jump is without its label.
+    #[cycle(blocks)]
+    fn terminal(&mut self, shown: ReactiveTerminalStatement, depth: u32, around: &Around<'_>)
+        requires { Decodes (terminal_at depth self.old shown.terminal) }
+        ensures { Passed (terminal_at depth self.old shown.terminal) (labelled_lines self.old.bounds shown.label (around_of around.now)) self.old self.new }
+    {
+        let parts = view(shown.terminal);
+        let own = self.values_own(parts);
+        let line = self.terminal_line(parts, shown.label, own, around);
+        self.found.note(line);
+        let inner = around.within(shown.label, parts.inside);
+        self.optional(parts.leading, depth, &inner);
+        self.values_inside(parts);
+        self.optional(parts.block, depth, &inner);
+        self.optional(parts.other, depth, &inner);
+        self.cases(parts.cases, depth, &inner);
+    }
+
+    // The statement in a slot, with all that is inside it.
+    #[cycle(blocks)]
+    fn statement(&mut self, slot: u32, depth: u32, around: &Around<'_>)
+        requires { Decodes (statement_at depth self.old slot) }
+        ensures { Passed (statement_at depth self.old slot) (λ s. stmt_lines self.old.bounds s (around_of around.now)) self.old self.new }
+    {
+        match self.arena.statements.at(slot) {
+            ReactiveStatement::Instruction(top) => self.top_instruction(top),
+            ReactiveStatement::Terminal(shown) => self.terminal(shown, depth, around),
+            ReactiveStatement::Scope(shown) => {
+                self.found
+                    .note(self.bounds.scope(shown.scope, Some(shown.scope)));
+                self.block(shown.instructions, depth, around);
+            }
+            ReactiveStatement::PrunedScope(shown) => {
+                self.found.note(self.bounds.scope(shown.scope, None));
+                self.block(shown.instructions, depth, around);
+            }
+        }
+    }
+
+    // A block at most `depth` deep. A row is two numbers, so it is the depth that tells that calls end.
+    #[cycle(blocks)]
+    pub fn block(&mut self, block: ReactiveBlock, depth: u32, around: &Around<'_>)
+        requires { Decodes (block_at depth self.old block) }
+        ensures { Passed (block_at depth self.old block) (λ b. block_lines self.old.bounds b (around_of around.now)) self.old self.new }
+    {
+        let arena = self.arena;
+        for slot in arena.entries.table.row(block) {
+            self.statement(*slot, depth - 1, around);
+        }
+    }
 }

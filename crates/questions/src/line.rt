@@ -1,6 +1,9 @@
 // The answers of one statement to the four questions, and what is found so far.
 ghost use Rattle.std.specs.Prelude.{◌≡◌};
-ghost use Rattle.questions.specs.Pass.{earliest, noted, claimed, unclaimed};
+ghost use Rattle.questions.specs.Findings.{earliest, claimed, unclaimed, step};
+
+use hir::used::SCOPES;
+use std::mem;
 
 // What numbers are held to: the lengths of the tables, and the counters.
 #[derive(Clone, Copy)]
@@ -21,59 +24,59 @@ pub struct Line {
     pub owns: Option<u32>,
 }
 
-// The number of the next statement, and of the first one with a no to each question.
-#[derive(Clone, Copy)]
+// The number of the next statement, that of the first one with a no to each question, and a mark at each scope whose Scope
+// block came earlier: an array, since a load takes no memory.
+#[derive(Drop)]
 pub struct Findings {
     pub next: u32,
     pub numbers: Option<u32>,
     pub shapes: Option<u32>,
     pub targets: Option<u32>,
     pub scopes: Option<u32>,
+    pub seen: [bool; SCOPES as usize],
 }
 
+// A constant and no `Default`: its value is known wherever it stands.
 pub const NOTHING: Findings = Findings {
     next: 0,
     numbers: None,
     shapes: None,
     targets: None,
     scopes: None,
+    seen: [false; SCOPES as usize],
 };
 
 // What was found earlier, or else this number, unless all is well.
 fn first(found: Option<u32>, well: bool, number: u32) -> Option<u32>
     ensures { result ≡ earliest found well number }
 {
-    match found {
-        Some(earlier) => Some(earlier),
-        None => { if well { None } else { Some(number) } }
-    }
+    found.or((!well).then_some(number))
 }
 
-// Adds a statement's answers. `fresh` tells that it is no scope's second Scope block. No tables hold so many statements that
-// the count could wrap.
-pub fn note(found: Findings, line: Line, fresh: bool) -> Findings
-    ensures { result ≡ noted found line fresh }
-{
-    Findings {
-        next: found.next.wrapping_add(1),
-        numbers: first(found.numbers, line.numbers, found.next),
-        shapes: first(found.shapes, line.shapes, found.next),
-        targets: first(found.targets, line.targets, found.next),
-        scopes: first(found.scopes, fresh, found.next),
+impl Findings {
+    // Adds a statement's answers. No tables hold so many statements that the count could wrap.
+    pub fn note(&mut self, line: Line)
+        ensures { self.new ≡ step line self.old }
+    {
+        // a match, since of a closure that changes the findings a proof would know less
+        let fresh = match line.owns {
+            Some(scope) => self.claim(scope),
+            None => true,
+        };
+        let number = self.next;
+        self.next = number.wrapping_add(1);
+        self.numbers = first(self.numbers, line.numbers, number);
+        self.shapes = first(self.shapes, line.shapes, number);
+        self.targets = first(self.targets, line.targets, number);
+        self.scopes = first(self.scopes, fresh, number);
     }
-}
 
-// Marks the scope of a Scope block, and tells whether it is the first of that scope.
-pub fn claim(seen: &mut [bool], scope: u32) -> bool
-    ensures fresh { result ≡ unclaimed seen.old scope }
-    ensures marks { seen.new ≡ claimed seen.old scope }
-{
-    let place = scope as usize;
-    if place < seen.len() {
-        let earlier = seen[place];
-        seen[place] = true;
-        !earlier
-    } else {
-        true
+    // Marks the scope of a Scope block, and tells whether it is the first of that scope.
+    fn claim(&mut self, scope: u32) -> bool
+        ensures fresh { result ≡ unclaimed self.old.seen scope }
+        ensures marks { self.new ≡ record self.old { seen = claimed self.old.seen scope } }
+    {
+        let place = scope as usize;
+        place >= self.seen.len() || !mem::replace(&mut self.seen[place], true)
     }
 }

@@ -1,14 +1,15 @@
 // The operations of a statement: the numbers of their places, and how many their kinds ask.
-ghost use Rattle.std.specs.Prelude.{◌≡◌, ◌+◌, [], ◌∷◌, Some};
+ghost use Rattle.std.specs.Prelude.{◌≡◌, [], ◌∷◌};
+ghost use Rattle.std.specs.List.{list_all};
 ghost use Rattle.hir.specs.Decode.{op_of, value_of};
-ghost use Rattle.hir.specs.Held.{value_slots};
-ghost use Rattle.questions.specs.Questions.{every, place_in, opt_place_in, writes_well, reads_well, val_ops};
+ghost use Rattle.questions.specs.Questions.{place_in, opt_place_in, writes_well, reads_well, val_ops};
 ghost use Rattle.questions.specs.Own.{own_of, both_own, Decodes, Same};
+ghost use Rattle.questions.specs.Pass.{values_in};
 
 use crate::line::Bounds;
+use crate::pass::Pass;
 use hir::place::Place;
 use hir::value::{InstructionValue, ReactiveValue};
-use hir::value_arena::ValueArena;
 
 // Whether the numbers of some operations are in range, and their written places and operands as their kinds ask.
 #[derive(Clone, Copy)]
@@ -17,33 +18,46 @@ pub struct Own {
     pub shapes: bool,
 }
 
+// The answers of no operations, which say yes: a constant and no `Default`.
 pub const NONE: Own = Own {
     numbers: true,
     shapes: true,
 };
 
-// Whether the identifiers of places are in their table.
-fn places_well(places: &[Place], bounds: Bounds) -> bool
-    ensures { result ≡ every (place_in bounds) places.now }
-{
-    for place in places {
-        if place.identifier >= bounds.identifiers {
-            return false;
+impl Own {
+    // The answers of two lists of operations together.
+    pub fn and(self, other: Own) -> Own
+        ensures { result ≡ both_own self other }
+    {
+        Own {
+            numbers: self.numbers && other.numbers,
+            shapes: self.shapes && other.shapes,
         }
     }
-    true
 }
 
-pub fn place_well(place: Option<Place>, bounds: Bounds) -> bool
-    ensures { result ≡ opt_place_in bounds place }
-{
-    match place {
-        Some(place) => place.identifier < bounds.identifiers,
-        None => true,
+impl Bounds {
+    // Whether a place's identifier is in its table.
+    fn place(self, place: Place) -> bool
+        ensures { result ≡ place_in self place }
+    {
+        place.identifier < self.identifiers
+    }
+
+    pub fn optional_place(self, place: Option<Place>) -> bool
+        ensures { result ≡ opt_place_in self place }
+    {
+        place.is_none_or(|place| self.place(place))
+    }
+
+    fn places(self, places: &[Place]) -> bool
+        ensures { result ≡ list_all (place_in self) places.now }
+    {
+        places.iter().all(|place| self.place(*place))
     }
 }
 
-// Whether a kind writes so many places.
+// Whether a kind, a number in the file too, writes so many places.
 fn writes(kind: u32, places: u32) -> bool
     ensures { result ≡ writes_well kind places }
 {
@@ -66,62 +80,46 @@ fn reads(kind: u32, operands: u32) -> bool
     }
 }
 
-// The answers of two lists of operations together.
-pub fn both(a: Own, b: Own) -> Own
-    ensures { result ≡ both_own a b }
-{
-    Own {
-        numbers: a.numbers & b.numbers,
-        shapes: a.shapes & b.shapes,
+impl Pass<'_> {
+    // The answers of one operation.
+    fn operation(&self, value: InstructionValue) -> Own
+        requires { Decodes (op_of (values_in self.now) value) }
+        ensures { Same (op_of (values_in self.now) value) (λ o. own_of self.now.bounds (o ∷ [])) result }
+    {
+        let places = &self.arena.inner.places;
+        let written = Own {
+            numbers: self.bounds.places(places.row(value.written)),
+            shapes: writes(value.kind, value.written.count),
+        };
+        let read = Own {
+            numbers: self.bounds.places(places.row(value.operands)),
+            shapes: reads(value.kind, value.operands.count),
+        };
+        written.and(read)
     }
-}
 
-// The answers of one operation.
-fn operation(arena: &ValueArena, value: InstructionValue, bounds: Bounds) -> Own
-    requires { Decodes (op_of (value_slots arena.now) value) }
-    ensures { Same (op_of (value_slots arena.now) value) (λ o. own_of bounds (o ∷ [])) result }
-{
-    let written = value.written.start as usize;
-    let operands = value.operands.start as usize;
-    let places = arena.places.as_slice();
-    let stored = &places[written..written + value.written.count as usize];
-    let read = &places[operands..operands + value.operands.count as usize];
-    let numbers = places_well(stored, bounds) & places_well(read, bounds);
-    let shapes = writes(value.kind, value.written.count) & reads(value.kind, value.operands.count);
-    Own { numbers, shapes }
-}
-
-// The operations of a value, but not those of a sequence's instructions, which are statements of their own.
-pub fn value_own(arena: &ValueArena, slot: u32, depth: u32, bounds: Bounds) -> Own
-    requires { Decodes (value_of depth (value_slots arena.now) slot) }
-    ensures { Same (value_of depth (value_slots arena.now) slot) (λ v. own_of bounds (val_ops v)) result }
-{
-    match arena.values[slot as usize] {
-        ReactiveValue::Instruction(value) => operation(arena, value, bounds),
-        ReactiveValue::LogicalExpression { left, right, .. } => {
-            both(
-                value_own(arena, left, depth - 1, bounds),
-                value_own(arena, right, depth - 1, bounds),
-            )
-        }
-        ReactiveValue::ConditionalExpression {
-            test,
-            consequent,
-            alternate,
-        } => {
-            both(
-                value_own(arena, test, depth - 1, bounds),
-                both(
-                    value_own(arena, consequent, depth - 1, bounds),
-                    value_own(arena, alternate, depth - 1, bounds),
-                ),
-            )
-        }
-        ReactiveValue::SequenceExpression { value, .. } => {
-            value_own(arena, value, depth - 1, bounds)
-        }
-        ReactiveValue::OptionalExpression { value, .. } => {
-            value_own(arena, value, depth - 1, bounds)
+    // The operations of a value, but not those of a sequence's instructions, which are statements of their own.
+    pub fn value_own(&self, slot: u32, depth: u32) -> Own
+        requires { Decodes (value_of depth (values_in self.now) slot) }
+        ensures { Same (value_of depth (values_in self.now) slot) (λ v. own_of self.now.bounds (val_ops v)) result }
+    {
+        match self.arena.inner.values.at(slot) {
+            ReactiveValue::Instruction(value) => self.operation(value),
+            ReactiveValue::LogicalExpression { left, right, .. } => {
+                let own = self.value_own(left, depth - 1);
+                own.and(self.value_own(right, depth - 1))
+            }
+            ReactiveValue::ConditionalExpression {
+                test,
+                consequent,
+                alternate,
+            } => {
+                let own = self.value_own(test, depth - 1);
+                let chosen = self.value_own(consequent, depth - 1);
+                own.and(chosen.and(self.value_own(alternate, depth - 1)))
+            }
+            ReactiveValue::SequenceExpression { value, .. }
+            | ReactiveValue::OptionalExpression { value, .. } => self.value_own(value, depth - 1),
         }
     }
 }

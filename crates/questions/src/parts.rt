@@ -11,7 +11,7 @@ use hir::terminal::{ReactiveBlock, ReactiveTerminal};
 #[derive(Clone, Copy)]
 pub struct Parts {
     pub place: Option<Place>,
-    pub jump: Jump,
+    pub jump: Option<Jump>,
     pub inside: Inside,
     pub leading: Option<ReactiveBlock>,
     pub init: Option<u32>,
@@ -22,9 +22,10 @@ pub struct Parts {
     pub cases: Range,
 }
 
+// Constants and no `Default`: their values are known wherever they stand.
 const BARE: Parts = Parts {
     place: None,
-    jump: Jump::Nowhere,
+    jump: None,
     inside: Inside::Plain,
     leading: None,
     init: None,
@@ -36,16 +37,8 @@ const BARE: Parts = Parts {
 };
 
 const LOOP: Parts = Parts {
-    place: None,
-    jump: Jump::Nowhere,
     inside: Inside::Loop,
-    leading: None,
-    init: None,
-    test: None,
-    update: None,
-    block: None,
-    other: None,
-    cases: EMPTY,
+    ..BARE
 };
 
 // The parts of each terminal.
@@ -58,7 +51,7 @@ pub fn view(terminal: ReactiveTerminal) -> Parts
             target_kind,
             ..
         } => Parts {
-            jump: Jump::Break(target, target_kind),
+            jump: Some(Jump::Break(target, target_kind)),
             ..BARE
         },
         ReactiveTerminal::Continue {
@@ -66,14 +59,10 @@ pub fn view(terminal: ReactiveTerminal) -> Parts
             target_kind,
             ..
         } => Parts {
-            jump: Jump::Continue(target, target_kind),
+            jump: Some(Jump::Continue(target, target_kind)),
             ..BARE
         },
-        ReactiveTerminal::Return { value, .. } => Parts {
-            place: Some(value),
-            ..BARE
-        },
-        ReactiveTerminal::Throw { value, .. } => Parts {
+        ReactiveTerminal::Return { value, .. } | ReactiveTerminal::Throw { value, .. } => Parts {
             place: Some(value),
             ..BARE
         },

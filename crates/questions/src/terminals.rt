@@ -1,84 +1,78 @@
 // What a terminal has of its own, and the values inside it.
-ghost use Rattle.std.specs.Prelude.{◌≡◌, ◌+◌, ◌≤◌, vec_len};
-ghost use Rattle.hir.specs.Held.{slots, value_slots};
-ghost use Rattle.questions.specs.Around.{around_of, Room};
-ghost use Rattle.questions.specs.Parts.{ValuesIn, tests_well, row_cases, parts_line, OwnValues, PassedValues};
+ghost use Rattle.std.specs.Prelude.{◌≡◌, ◌+◌, ◌≤◌, ◌&&◌, length};
+ghost use Rattle.questions.specs.Around.{around_of};
+ghost use Rattle.questions.specs.Parts.{ValuesIn, tests_well, row_cases, parts_in, parts_line, OwnValues, PassedValues};
+ghost use Rattle.questions.specs.Pass.{slots_in, values_in};
 ghost use Rattle.questions.specs.Questions.{label_in};
 
-use crate::around::{Around, jump_well};
-use crate::line::{Bounds, Findings, Line};
-use crate::operations::{Own, both, place_well};
+use crate::around::Around;
+use crate::line::{Bounds, Line};
+use crate::operations::Own;
 use crate::parts::Parts;
-use crate::values::{inside, inside_own};
-use hir::arena::Arena;
+use crate::pass::Pass;
 use hir::terminal::{ReactiveLabel, ReactiveSwitchCase};
-use hir::value_arena::ValueArena;
 
-fn label_well(label: Option<ReactiveLabel>, bounds: Bounds) -> bool
-    ensures { result ≡ label_in bounds label }
-{
-    match label {
-        Some(label) => label.id < bounds.blocks,
-        None => true,
+impl Bounds {
+    // Whether the tests of switch cases are in their table.
+    fn tests(self, cases: &[ReactiveSwitchCase]) -> bool
+        ensures { result ≡ tests_well self cases.now }
+    {
+        cases.iter().all(|case| self.optional_place(case.test))
     }
 }
 
-// Whether the tests of switch cases are in their table.
-fn tests(cases: &[ReactiveSwitchCase], bounds: Bounds) -> bool
-    ensures { result ≡ tests_well bounds cases.now }
-{
-    for case in cases {
-        if !place_well(case.test, bounds) {
-            return false;
+impl Pass<'_> {
+    // The operations of a terminal's values.
+    #[tactic(auto, using(crate::proofs::ValueParts::own_append))]
+    pub fn values_own(&self, parts: Parts) -> Own
+        requires { ValuesIn (values_in self.now) parts }
+        ensures { OwnValues (values_in self.now) parts self.now.bounds result }
+    {
+        let init = self.inside_own(parts.init);
+        let test = self.inside_own(parts.test);
+        let update = self.inside_own(parts.update);
+        init.and(test.and(update))
+    }
+
+    // The instructions inside a terminal's values, in file order.
+    #[tactic(auto, using(crate::proofs::Passing::passed_append))]
+    pub fn values_inside(&mut self, parts: Parts)
+        requires { ValuesIn (values_in self.old) parts }
+        ensures { PassedValues parts self.old self.new }
+    {
+        self.inside(parts.init);
+        self.inside(parts.test);
+        self.inside(parts.update);
+    }
+
+    // Whether a terminal's own numbers are in range.
+    fn parts_well(&self, parts: Parts, label: Option<ReactiveLabel>) -> bool
+        requires { parts.cases.start + parts.cases.count ≤ length (slots_in self.now).cases }
+        ensures { result ≡ (label_in self.now.bounds label && parts_in self.now.bounds parts (row_cases (slots_in self.now) parts)) }
+    {
+        let bounds = self.bounds;
+        label.is_none_or(|label| label.id < bounds.blocks)
+            && bounds.optional_place(parts.place)
+            && parts.jump.is_none_or(|jump| bounds.jump(jump))
+            && bounds.tests(self.arena.cases.table.row(parts.cases))
+    }
+
+    // A terminal's answers, by its parts and the answers of its operations.
+    pub fn terminal_line(
+        &self,
+        parts: Parts,
+        label: Option<ReactiveLabel>,
+        own: Own,
+        around: &Around<'_>,
+    ) -> Line
+        requires { parts.cases.start + parts.cases.count ≤ length (slots_in self.now).cases }
+        ensures { result ≡ parts_line self.now.bounds parts label (around_of around.now) (row_cases (slots_in self.now) parts) own }
+    {
+        Line {
+            numbers: self.parts_well(parts, label) && own.numbers,
+            shapes: own.shapes,
+            targets: around.aims(parts.jump),
+            owns: None,
         }
-    }
-    true
-}
-
-// The operations of a terminal's values.
-pub fn values_own(arena: &ValueArena, parts: Parts, bounds: Bounds) -> Own
-    requires { ValuesIn (value_slots arena.now) parts }
-    ensures { OwnValues (value_slots arena.now) parts bounds result }
-{
-    let init = inside_own(arena, parts.init, bounds);
-    let test = inside_own(arena, parts.test, bounds);
-    let update = inside_own(arena, parts.update, bounds);
-    both(init, both(test, update))
-}
-
-// The instructions inside a terminal's values, in file order.
-pub fn values_inside(arena: &ValueArena, parts: Parts, bounds: Bounds, found: Findings) -> Findings
-    requires { ValuesIn (value_slots arena.now) parts }
-    ensures { PassedValues (value_slots arena.now) parts bounds found result }
-{
-    let begun = inside(arena, parts.init, bounds, found);
-    let tested = inside(arena, parts.test, bounds, begun);
-    inside(arena, parts.update, bounds, tested)
-}
-
-// A terminal's answers, by its parts and the answers of its operations.
-pub fn terminal_line(
-    arena: &Arena,
-    parts: Parts,
-    label: Option<ReactiveLabel>,
-    own: Own,
-    around: &Around,
-    bounds: Bounds,
-) -> Line
-    requires cases { parts.cases.start + parts.cases.count ≤ vec_len arena.now.cases }
-    requires room { Room around.now 1 }
-    ensures { result ≡ parts_line bounds parts label (around_of around.now) (row_cases (slots arena.now) parts) own }
-{
-    let start = parts.cases.start as usize;
-    let cases = &arena.cases.as_slice()[start..start + parts.cases.count as usize];
-    let tested = tests(cases, bounds);
-    let placed = place_well(parts.place, bounds);
-    let numbers = label_well(label, bounds)
-        & ((placed & (jump_well(parts.jump, bounds) & tested)) & own.numbers);
-    Line {
-        numbers,
-        shapes: own.shapes,
-        targets: around.aims(parts.jump),
-        owns: None,
     }
 }

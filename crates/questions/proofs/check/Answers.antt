@@ -1,24 +1,24 @@
-use Rattle.std.proofs.Common.{false, replicate, sym, ap, ◌∙◌, subst}
-use Rattle.hir.specs.Decode.{root_of}
-use Rattle.hir.specs.Held.{held, slots}
+use Rattle.std.proofs.Common.{sym, ap, ◌∙◌, subst}
+use Rattle.std.specs.List.{list_all}
+use Rattle.hir.specs.Held.{held}
 use Rattle.hir.specs.declared.environment.ReactiveScope.{ReactiveScope}
 use Rattle.semantics.specs.Targets.{nowhere}
 use Rattle.questions.specs.Answers.{Answers}
-use Rattle.questions.specs.Pass.{Outer, nothing}
-use Rattle.questions.specs.Questions.{every, unrecorded, block_lines}
+use Rattle.questions.specs.Findings.{passed, nothing}
+use Rattle.questions.specs.Questions.{unrecorded, block_lines}
 use Rattle.questions.specs.Tables.{tables_in}
 use Rattle.questions.proofs.Decided.{table_faulty}
-use Rattle.questions.proofs.HeldTables.{root_decodes, tables_held, check_answers}
+use Rattle.questions.proofs.HeldTables.{block_decodes, tables_held, check_answers}
 use Rattle.questions.proofs.check.Goals as goal
 
-pub body-found-requires : goal.body-found-requires
-body-found-requires c = root_decodes c.args.arena.now c.args.root c.requires.rooted
+pub block-requires : goal.block-requires
+block-requires c = block_decodes c.deepest.result c.deepest.ensures c.args.arena.now c.args.root c.requires.rooted
 
-pub returns-then-not-tables_well : goal.returns-then-not-tables_well
-returns-then-not-tables_well c =
+pub returns-then-not-tables : goal.returns-then-not-tables
+returns-then-not-tables c =
     let e = c.args.environment.now in
     table_faulty (held e c.args.arena.now c.args.root)
-    (sym (tables_held e c.args.arena.now c.args.root) ∙ ap (λ B. tables_in B e) (sym c.bounds-bounds.ensures) ∙ sym c.tables_well.ensures ∙ c.if-not-tables_well.true)
+    (sym (tables_held e c.args.arena.now c.args.root) ∙ ap (λ B. tables_in B e) (sym c.of-bounds.ensures) ∙ sym c.tables.ensures ∙ c.if-not-tables.true)
 
 pub returns : goal.returns
 returns c =
@@ -26,7 +26,7 @@ returns c =
     let a = c.args.arena.now in
     let r = c.args.root in
     subst (λ x. Answers (held e a r) x) (sym c.answer.ensures)
-    (check_answers e a r c.body-found.result c.body-found.new.seen c.no_records.result c.requires.rooted c.requires.counted
-    (ap (λ B. tables_in B e) (sym c.bounds-bounds.ensures) ∙ sym c.tables_well.ensures ∙ c.if-not-tables_well.false)
-    (subst (λ B. Outer (root_of (slots a) r) (λ b. block_lines B b nowhere) nothing (replicate 256 false) c.body-found.result c.body-found.new.seen) c.bounds-bounds.ensures c.body-found.ensures)
-    (c.no_records.ensures ∙ ap (every (λ (s : ReactiveScope). unrecorded s.early)) c.as_slice.ensures.value))
+    (check_answers e a r c.deepest.result c.deepest.ensures c.block.new.self.found c.no_records.result c.requires.rooted c.requires.counted
+    (ap (λ B. tables_in B e) (sym c.of-bounds.ensures) ∙ sym c.tables.ensures ∙ c.if-not-tables.false)
+    (λ b is. c.block.ensures.by b is ∙ ap (λ B. passed (block_lines B b nowhere) nothing) c.of-bounds.ensures)
+    (c.no_records.ensures ∙ ap (list_all (λ (s : ReactiveScope). unrecorded s.early)) c.deref.ensures.value))
