@@ -1,5 +1,5 @@
 -- What each way through the reading of a statement leaves. Assumes nothing.
-use Rattle.std.proofs.Common.{◌≡◌, ℕ, List, [], ◌∷◌, Some, None, Ok, Option, Result, sym, refl, ap, ◌∙◌}
+use Rattle.std.proofs.Common.{◌≡◌, ℕ, Bool, true, false, List, [], ◌∷◌, Some, None, Ok, Option, Result, sym, refl, ap, ◌∙◌}
 use Rattle.std.proofs.lemmas.Result.{MatchResult-weaker}
 use Rattle.hir.specs.declared.arena.Arena.{Arena}
 use Rattle.hir.specs.declared.place.Place.{Place}
@@ -14,17 +14,17 @@ use Rattle.hir.specs.declared.value.ReactiveInstruction.{ReactiveInstruction}
 use Rattle.hir.specs.Decode.{Slots, cases_of, block_of}
 use Rattle.hir.specs.Held.{slots}
 use Rattle.hir.specs.Options.{bind, nth, part}
-use Rattle.hir.specs.Tree.{Stmt, instruction, scope, pruned, terminal, Term, break, continue, return, throw, switch, do_while, while, for, for_of, for_in, if, label, try, Cases, OptBlock, no_block, some_block}
-use Rattle.hir.proofs.Grow.{Under, bound, same_under, top_grows, block_grows, opt_value_under, opt_block_under}
+use Rattle.hir.specs.Tree.{Stmt, instruction, scope, pruned, terminal, Term, break, continue, return, throw, switch, do_while, while, for, for_of, for_in, if, label, try, no_block, some_block}
+use Rattle.hir.proofs.Grow.{Under, bound, same_under, top_grows, block_grows, opt_value_under}
 use Rattle.format.specs.declared.fault.FileFault.{FileFault}
-use Rattle.format.specs.Parse.{Cursor, Read, onto, give, word, order, case, option, place, top_value, opt_value, label_read, jump_read, leave_read, instruction_read, block, opt_block, cases_read, switch_read, do_while_read, while_read, for_read, for_of_read, for_in_read, if_read, label_block_read, try_read, term_read, terminal_read, scope_read, stmt_read}
+use Rattle.format.specs.Parse.{Cursor, Read, onto, give, word, order, flag, case, option, place, top_value, opt_value, label_read, jump_read, leave_read, instruction_read, block, opt_block, cases_read, switch_read, do_while_read, while_read, for_read, for_of_read, for_in_read, if_read, label_block_read, try_read, term_read, terminal_read, scope_read, stmt_read}
 use Rattle.load.specs.declared.reader.Reader.{Reader}
 use Rattle.load.specs.Reads.{cursor}
-use Rattle.load.specs.Blocks.{Frame, BlockIn, ReadsBlock, ReadsJump, slot_in, opt_slot_in, plain_in, opt_block_in, cases_in, case_in, case_read, term_in, terminal_in, stmt_in}
+use Rattle.load.specs.Blocks.{Frame, BlockIn, ReadsBlock, slot_in, opt_slot_in, plain_in, opt_block_in, cases_in, case_in, case_read, term_in, terminal_in, stmt_in}
 use Rattle.load.proofs.BlockSteps.{frame_later, frame_more, after_leaf}
-use Rattle.load.proofs.Chosen.{case_from}
+use Rattle.load.proofs.Chosen.{case_from, flag_no, flag_yes}
 use Rattle.load.proofs.Iterate.{onto_onto}
-use Rattle.load.proofs.Later.{Later, within_more, word_later, order_later, option_later, place_later, label_later}
+use Rattle.load.proofs.Later.{Later, within_more, word_later, flag_later, order_later, option_later, place_later, label_later}
 
 -- ---- what stands before a step stands after it
 module _ {a b : Arena} {u v : Used} (f : Frame a b u v) where
@@ -36,9 +36,6 @@ module _ {a b : Arena} {u v : Used} (f : Frame a b u v) where
 
   opt_value_kept : Under (opt_slot_in (slots a)) (opt_slot_in (slots b))
   opt_value_kept = opt_value_under _ _ _ _ value_kept (same_under (block_of 0 (slots a)))
-
-  opt_block_kept : (d : ℕ) → Under (opt_block_in d (slots a)) (opt_block_in d (slots b))
-  opt_block_kept d = opt_block_under _ _ _ _ (same_under (slot_in (slots a))) (block_kept d)
 
 -- ---- cases
 -- the case's own reading is that of the whole
@@ -52,33 +49,22 @@ terms d =
     ∷ for_of_read (block d) ∷ for_in_read (block d) ∷ if_read (block d) ∷ label_block_read (block d) ∷ try_read (block d) ∷ []
 
 -- a terminal without values or blocks
-pub jump_of : (d : ℕ) (a : Arena) (r : Result ReactiveTerminal FileFault) {w : ℕ} (k : ℕ) (p : Cursor → Read Term) (s t u : Reader) → Later p → nth (terms d) k ≡ Some p → word (cursor s) ≡ Ok (w, cursor t) → w ≡ k → ReadsJump p t u r → ReadsBlock (term_read (block d)) (term_in d) a a s u r
-jump_of d a r {w} k p s t u l n h z m =
-    MatchResult-weaker r m
-    (λ _ x.
-    record {
-      tree = x.tree;
-      parsed = case_from (terms d) k p (cursor s) n h z _ x.parsed;
-      stands = x.stands (slots a) _ _;
-      frame = frame_later a (within_more (word_later (cursor s) (w, cursor t) h) (l (cursor t) (x.tree, cursor u) x.parsed));
-    })
-    (λ e x. case_from (terms d) k p (cursor s) n h z _ x)
+pub jump_in : (d k : ℕ) (p : Cursor → Read Term) {w : ℕ} {x : Term} {a : Arena} {c c₁ c₂ : Cursor} {r : ReactiveTerminal} → Later p → nth (terms d) k ≡ Some p → word c ≡ Ok (w, c₁) → w ≡ k → p c₁ ≡ Ok (x, c₂) → term_in d (slots a) r ≡ Some x → BlockIn (term_read (block d)) (term_in d) a a c c₂ r
+jump_in d k p {w} {x} {a} {c} {c₁} {c₂} l n h z m s =
+    record { tree = x; parsed = case_from (terms d) k p c n h z _ m; stands = s; frame = frame_later a (within_more (word_later c (w, c₁) h) (l c₁ (x, c₂) m)) }
 
 -- ---- optional blocks and switch cases
-abbrev opt_blocks : ℕ → List (Cursor → Read OptBlock)
-opt_blocks d = give no_block ∷ (λ c. onto (block d c) (λ b. give (some_block b))) ∷ []
+pub no_block_lem : (d : ℕ) {b : Bool} {a : Arena} {c c₁ : Cursor} → flag c ≡ Ok (b, c₁) → b ≡ false → BlockIn (opt_block (block d)) (opt_block_in d) a a c c₁ None
+no_block_lem d {b} {a} {c} {c₁} h z =
+    record { tree = no_block; parsed = flag_no (give no_block) _ c h z; stands = refl; frame = frame_later a (flag_later c (b, c₁) h) }
 
-pub no_block_lem : (d : ℕ) {w : ℕ} {a : Arena} {c c₁ : Cursor} → word c ≡ Ok (w, c₁) → w ≡ 0 → BlockIn (opt_block (block d)) (opt_block_in d) a a c c₁ None
-no_block_lem d {w} {a} {c} {c₁} h z =
-    record { tree = no_block; parsed = case_from (opt_blocks d) 0 _ c refl h z _ refl; stands = refl; frame = frame_later a (word_later c (w, c₁) h) }
-
-pub some_block_lem : (d : ℕ) {w : ℕ} {a b : Arena} {c c₁ e : Cursor} {r : Range} → word c ≡ Ok (w, c₁) → w ≡ 1 → BlockIn (block d) (block_of d) a b c₁ e r → BlockIn (opt_block (block d)) (opt_block_in d) a b c e (Some r)
-some_block_lem d {w} {a} {b} {c} {c₁} h z m =
+pub some_block_lem : (d : ℕ) {f : Bool} {a b : Arena} {c c₁ e : Cursor} {r : Range} → flag c ≡ Ok (f, c₁) → f ≡ true → BlockIn (block d) (block_of d) a b c₁ e r → BlockIn (opt_block (block d)) (opt_block_in d) a b c e (Some r)
+some_block_lem d {f} {a} {b} {c} {c₁} h z m =
     record {
       tree = some_block m.tree;
-      parsed = case_from (opt_blocks d) 1 _ c refl h z _ (ap (λ r. onto r (λ b. give (some_block b))) m.parsed);
+      parsed = flag_yes (give no_block) (λ c. onto (block d c) (λ b. give (some_block b))) c h z ∙ ap (λ r. onto r (λ b. give (some_block b))) m.parsed;
       stands = ap (λ o. bind o (λ b. Some (some_block b))) m.stands;
-      frame = frame_more (frame_later a (word_later c (w, c₁) h)) m.frame;
+      frame = frame_more (frame_later a (flag_later c (f, c₁) h)) m.frame;
     }
 
 pub case_in_row : (d : ℕ) {a b : Arena} {c c₁ c₂ : Cursor} {t : Option Place} {r : Option Range} → option place c ≡ Ok (t, c₁) → BlockIn (opt_block (block d)) (opt_block_in d) a b c₁ c₂ r → BlockIn (case_read d) (case_in d) a b c c₂ (record { test = t; block = r })
@@ -91,9 +77,6 @@ case_in_row d {a} {b} {c} {c₁} {c₂} {t} h x =
     }
 
 -- ---- terminals
-abbrev cases_listed : ℕ → Cursor → Read Cases
-cases_listed d c = onto (word c) (cases_read (block d))
-
 pub switch_in : (d : ℕ) {i : ℕ} {a b : Arena} {c c₁ c₂ c₃ : Cursor} {p : Place} {r : Range} → place c ≡ Ok (p, c₁) → BlockIn (λ q. onto (word q) (cases_read (block d))) (cases_in d) a b c₁ c₂ r → order c₂ ≡ Ok (i, c₃) → BlockIn (switch_read (block d)) (term_in d) a b c c₃ (Switch p r i)
 switch_in d {i} {a} {b} {c} {c₁} {c₂} {c₃} {p} {r} h x k =
     let o = bound (part (slots b).cases r) _ x.tree x.stands in

@@ -1,5 +1,5 @@
 -- Statements and switch cases, one after another, and the rows that they become. Assumes nothing.
-use Rattle.std.proofs.Common.{◌≡◌, ℕ, suc, ◌+◌, ◌-◌, ◌<◌, ◌≤◌, ◌≢◌, [], ◌∷◌, ◌++◌, length, take, drop, Some, None, Ok, Err, vec_items, vec_len, Option, sym, refl, ap, ◌∙◌, append_assoc, append-nil, add-one, arith, length-append}
+use Rattle.std.proofs.Common.{◌≡◌, ℕ, suc, ◌+◌, ◌-◌, ◌<◌, ◌≤◌, [], ◌∷◌, ◌++◌, length, take, drop, Some, None, Ok, Err, vec_items, vec_len, Option, sym, refl, ap, ◌∙◌, append_assoc, append-nil, add-one, arith, length-append}
 use Rattle.std.proofs.lemmas.List.{drop_at, take_at}
 use Rattle.hir.specs.declared.arena.Arena.{Arena}
 use Rattle.hir.specs.declared.place.Place.{Place}
@@ -50,41 +50,41 @@ stmts_rows f = record { none = refl; next = λ i is. refl; last = λ x. refl; be
 abbrev pub Added : Arena → Arena → ReactiveStatement → ℕ → Type 0
 Added a b n k =
     record {
-      slot : k ≡ vec_len a.statements;
-      items : vec_items b.statements ≡ vec_items a.statements ++ n ∷ [];
-      len : vec_len b.statements ≡ vec_len a.statements + 1;
+      slot : k ≡ vec_len a.statements.vec;
+      items : vec_items b.statements.vec ≡ vec_items a.statements.vec ++ n ∷ [];
+      len : vec_len b.statements.vec ≡ vec_len a.statements.vec + 1;
       inner : b.inner ≡ a.inner;
-      entries : b.entries ≡ a.entries;
-      cases : b.cases ≡ a.cases;
-      waiting : b.waiting ≡ a.waiting;
-      casing : b.casing ≡ a.casing;
+      entries : b.entries.table.vec ≡ a.entries.table.vec;
+      cases : b.cases.table.vec ≡ a.cases.table.vec;
+      waiting : b.entries.waiting.vec ≡ a.entries.waiting.vec;
+      casing : b.cases.waiting.vec ≡ a.cases.waiting.vec;
     }
 
 abbrev pub Waited : Arena → Arena → ℕ → Type 0
 Waited a b k =
     record {
-      items : vec_items b.waiting ≡ vec_items a.waiting ++ k ∷ [];
-      len : vec_len b.waiting ≡ vec_len a.waiting + 1;
+      items : vec_items b.entries.waiting.vec ≡ vec_items a.entries.waiting.vec ++ k ∷ [];
+      len : vec_len b.entries.waiting.vec ≡ vec_len a.entries.waiting.vec + 1;
       inner : b.inner ≡ a.inner;
-      statements : b.statements ≡ a.statements;
-      entries : b.entries ≡ a.entries;
-      cases : b.cases ≡ a.cases;
-      casing : b.casing ≡ a.casing;
+      statements : b.statements.vec ≡ a.statements.vec;
+      entries : b.entries.table.vec ≡ a.entries.table.vec;
+      cases : b.cases.table.vec ≡ a.cases.table.vec;
+      casing : b.cases.waiting.vec ≡ a.cases.waiting.vec;
     }
 
 -- tables of values that are the same
 inner_grow : {x y : ValueArena} → y ≡ x → ValuesGrow (value_slots x) (value_slots y)
 inner_grow e =
-    record { values = grows_same (ap (λ i. vec_items i.values) e); instructions = grows_same (ap (λ i. vec_items i.instructions) e); places = grows_same (ap (λ i. vec_items i.places) e) }
+    record { values = grows_same (ap (λ i. vec_items i.values.vec) e); instructions = grows_same (ap (λ i. vec_items i.instructions.table.vec) e); places = grows_same (ap (λ i. vec_items i.places.vec) e) }
 
 inner_same : {x y : ValueArena} {u v : Used} → y ≡ x → Within u v → ValueStep x y u v
 inner_same e w =
     record {
       grow = inner_grow e;
       later = w;
-      values = omega (arith, w.values, ap (λ i. vec_len i.values) e);
-      places = omega (arith, w.places, ap (λ i. vec_len i.places) e);
-      instructions = omega (arith, w.statements, ap (λ i. vec_len i.instructions) e, ap (λ i. vec_len i.waiting) e);
+      values = omega (arith, w.values, ap (λ i. vec_len i.values.vec) e);
+      places = omega (arith, w.places, ap (λ i. vec_len i.places.vec) e);
+      instructions = omega (arith, w.statements, ap (λ i. vec_len i.instructions.table.vec) e, ap (λ i. vec_len i.instructions.waiting.vec) e);
     }
 
 added_grow : (a b : Arena) (n : ReactiveStatement) (k : ℕ) → Added a b n k → SlotsGrow (slots a) (slots b)
@@ -113,7 +113,7 @@ pub stmts_after : (f : Arena) {d n k : ℕ} {a b e g : Arena} {c c₁ c₂ c₃ 
 stmts_after f {d} {n} {k} {a} {b} {e} {g} {c} {c₁} {c₂} {c₃} {s} m h x p q =
     let w = statement_begun c₁ (tt, c₂) h in
     let begun : Within c₁.used c₂.used = record { statements = omega (arith, w.statements); values = w.values; places = w.places; identifiers = w.identifiers; scopes = w.scopes; declarations = w.declarations; cases = w.cases } in
-    let here = slot_grows d _ _ (waited_grow f g k q) k x.tree (slot_added d (slots e) (slots f) (added_grow e f s k p) s x.tree k p.items (p.slot ∙ e.statements.ok.0) x.stands) in
+    let here = slot_grows d _ _ (waited_grow f g k q) k x.tree (slot_added d (slots e) (slots f) (added_grow e f s k p) s x.tree k p.items (p.slot ∙ e.statements.vec.ok.0) x.stands) in
     let grow = slots_more x.frame.step.grow (slots_more (added_grow e f s k p) (waited_grow f g k q)) in
     let before = body_under _ _ (slot_grows d _ _ grow) m.row m.tree m.stands in
     let one : one_stmt d c₁ ≡ Ok (x.tree, c₃) = ap (λ r. onto r (λ _. stmt_read (block d))) h ∙ x.parsed in
@@ -130,7 +130,7 @@ stmts_after f {d} {n} {k} {a} {b} {e} {g} {c} {c₁} {c₂} {c₃} {s} m h x p q
             entries = omega (arith, m.step.entries, x.frame.step.entries, w.statements, ap vec_len p.entries, ap vec_len q.entries, ap vec_len p.waiting, q.len);
             cases = omega (arith, m.step.cases, x.frame.step.cases, w.cases, ap vec_len p.cases, ap vec_len q.cases, ap vec_len p.casing, ap vec_len q.casing);
           };
-      waiting = q.items ∙ ap (λ l. l ++ k ∷ []) (ap vec_items p.waiting ∙ x.frame.waiting ∙ m.waiting) ∙ append_assoc (vec_items a.waiting) m.row (k ∷ []);
+      waiting = q.items ∙ ap (λ l. l ++ k ∷ []) (ap vec_items p.waiting ∙ x.frame.waiting ∙ m.waiting) ∙ append_assoc (vec_items a.entries.waiting.vec) m.row (k ∷ []);
       casing = ap vec_items q.casing ∙ ap vec_items p.casing ∙ x.frame.casing ∙ m.casing;
     }
 
@@ -143,56 +143,47 @@ stmt_short d c h = ap (λ r. onto r (λ _. stmt_read (block d))) h
 pub stmt_from : (d : ℕ) (c : Cursor) {c₁ : Cursor} {x : Read Stmt} → begin_statement c ≡ Ok (tt, c₁) → stmt_read (block d) c₁ ≡ x → one_stmt d c ≡ x
 stmt_from d c h e = ap (λ r. onto r (λ _. stmt_read (block d))) h ∙ e
 
--- room for one more statement
-pub stmt_room : {d n m : ℕ} {a b e : Arena} {c c₁ c₂ c₃ : Cursor} {s : ReactiveStatement} → Room a c.used → StmtsIn d n a b c c₁ → begin_statement c₁ ≡ Ok (tt, c₂) → BlockIn (stmt_read (block d)) (stmt_in d) b e c₂ c₃ s → c₃.used.statements ≤ m → (vec_len e.statements < m) × (vec_len e.waiting < m)
-stmt_room {c₁ = c₁} {c₂ = c₂} r m h x k =
-    let w = statement_begun c₁ (tt, c₂) h in
-    (omega (arith, r.statements, m.step.statements, x.frame.step.statements, w.statements), omega (arith, r.entries, m.step.entries, x.frame.step.entries, w.statements))
-
 -- ---- a block
 abbrev pub Settled : Arena → Arena → ℕ → Range → Type 0
 Settled a b base r =
     record {
-      start : r.start ≡ vec_len a.entries;
-      count : r.count ≡ vec_len a.waiting - base;
-      items : vec_items b.entries ≡ vec_items a.entries ++ drop base (vec_items a.waiting);
-      len : vec_len b.entries ≡ vec_len a.entries + (vec_len a.waiting - base);
-      waiting : vec_items b.waiting ≡ take base (vec_items a.waiting);
-      base : vec_len b.waiting ≡ base;
+      start : r.start ≡ vec_len a.entries.table.vec;
+      count : r.count ≡ vec_len a.entries.waiting.vec - base;
+      items : vec_items b.entries.table.vec ≡ vec_items a.entries.table.vec ++ drop base (vec_items a.entries.waiting.vec);
+      len : vec_len b.entries.table.vec ≡ vec_len a.entries.table.vec + (vec_len a.entries.waiting.vec - base);
+      waiting : vec_items b.entries.waiting.vec ≡ take base (vec_items a.entries.waiting.vec);
+      base : vec_len b.entries.waiting.vec ≡ base;
       inner : b.inner ≡ a.inner;
-      statements : b.statements ≡ a.statements;
-      cases : b.cases ≡ a.cases;
-      casing : b.casing ≡ a.casing;
+      statements : b.statements.vec ≡ a.statements.vec;
+      cases : b.cases.table.vec ≡ a.cases.table.vec;
+      casing : b.cases.waiting.vec ≡ a.cases.waiting.vec;
     }
 
-waited : {d n : ℕ} {a b : Arena} {c c₁ : Cursor} (m : StmtsIn d n a b c c₁) → vec_len b.waiting ≡ vec_len a.waiting + length m.row
-waited {a = a} {b = b} m = omega (arith, a.waiting.ok.0, b.waiting.ok.0, ap length m.waiting ∙ length-append (vec_items a.waiting) m.row)
+waited : {d n : ℕ} {a b : Arena} {c c₁ : Cursor} (m : StmtsIn d n a b c c₁) → vec_len b.entries.waiting.vec ≡ vec_len a.entries.waiting.vec + length m.row
+waited {a = a} {b = b} m = omega (arith, a.entries.waiting.vec.ok.0, b.entries.waiting.vec.ok.0, ap length m.waiting ∙ length-append (vec_items a.entries.waiting.vec) m.row)
 
-pub block_from : (d : ℕ) (c : Cursor) {n : ℕ} {c₁ : Cursor} → d ≢ 0 → word c ≡ Ok (n, c₁) → (x : Read Block) → stmts_read (block (d - 1)) n c₁ ≡ x → block d c ≡ x
-block_from d c n h x e =
-    let s : d ≡ suc (d - 1) = omega arith in
-    ap (λ k. block k c) s ∙ ap (λ r. onto r (stmts_read (block (d - 1)))) h ∙ e
+pub block_from : {d j : ℕ} (c : Cursor) {n : ℕ} {c₁ : Cursor} → d ≡ suc j → word c ≡ Ok (n, c₁) → (x : Read Block) → stmts_read (block j) n c₁ ≡ x → block d c ≡ x
+block_from {d} {j} c s h x e =
+    ap (λ k. block k c) s ∙ ap (λ r. onto r (stmts_read (block j))) h ∙ e
 
-pub block_short : (d : ℕ) (c : Cursor) {e : FileFault} → d ≢ 0 → word c ≡ Err e → block d c ≡ Err e
-block_short d c n h =
-    let s : d ≡ suc (d - 1) = omega arith in
-    ap (λ k. block k c) s ∙ ap (λ r. onto r (stmts_read (block (d - 1)))) h
+pub block_short : {d j : ℕ} (c : Cursor) {e : FileFault} → d ≡ suc j → word c ≡ Err e → block d c ≡ Err e
+block_short {d} {j} c s h =
+    ap (λ k. block k c) s ∙ ap (λ r. onto r (stmts_read (block j))) h
 
-pub block_in : (d : ℕ) {n base : ℕ} {a b e : Arena} {c c₁ c₂ : Cursor} {r : Range} → d ≢ 0 → word c ≡ Ok (n, c₁) → base ≡ vec_len a.waiting → StmtsIn (d - 1) n a b c₁ c₂ → Settled b e base r → BlockIn (block d) (block_of d) a e c c₂ r
-block_in d {n} {base} {a} {b} {e} {c} {c₁} {c₂} {r} ne h q m p =
-    let s : d ≡ suc (d - 1) = omega arith in
+pub block_in : {d j n base : ℕ} {a b e : Arena} {c c₁ c₂ : Cursor} {r : Range} → d ≡ suc j → word c ≡ Ok (n, c₁) → base ≡ vec_len a.entries.waiting.vec → StmtsIn j n a b c₁ c₂ → Settled b e base r → BlockIn (block d) (block_of d) a e c c₂ r
+block_in {d} {j} {n} {base} {a} {b} {e} {c} {c₁} {c₂} {r} s h q m p =
     let long = waited m in
-    let at : length (vec_items a.waiting) ≡ base = sym (q ∙ a.waiting.ok.0) in
-    let new : drop base (vec_items b.waiting) ≡ m.row = ap (drop base) m.waiting ∙ drop_at (vec_items a.waiting) m.row base at in
-    let old : take base (vec_items b.waiting) ≡ vec_items a.waiting = ap (take base) m.waiting ∙ take_at (vec_items a.waiting) m.row base at in
-    let items : vec_items e.entries ≡ vec_items b.entries ++ m.row = p.items ∙ ap (λ l. vec_items b.entries ++ l) new in
+    let at : length (vec_items a.entries.waiting.vec) ≡ base = sym (q ∙ a.entries.waiting.vec.ok.0) in
+    let new : drop base (vec_items b.entries.waiting.vec) ≡ m.row = ap (drop base) m.waiting ∙ drop_at (vec_items a.entries.waiting.vec) m.row base at in
+    let old : take base (vec_items b.entries.waiting.vec) ≡ vec_items a.entries.waiting.vec = ap (take base) m.waiting ∙ take_at (vec_items a.entries.waiting.vec) m.row base at in
+    let items : vec_items e.entries.table.vec ≡ vec_items b.entries.table.vec ++ m.row = p.items ∙ ap (λ l. vec_items b.entries.table.vec ++ l) new in
     let w = word_later c (n, c₁) h in
     let inner = inner_same p.inner (within_same c₂.used) in
     let grow : SlotsGrow (slots b) (slots e) = record { inner = inner.grow; statements = grows_same (ap vec_items p.statements); entries = record { more = m.row; is = items }; cases = grows_same (ap vec_items p.cases) } in
     record {
       tree = m.tree;
-      parsed = block_from d c ne h _ m.parsed;
-      stands = ap (λ k. block_of k (slots e) r) s ∙ block_added (d - 1) (slots b) (slots e) grow m.row r m.tree items (p.start ∙ b.entries.ok.0) (omega (arith, p.count, long, q)) m.stands;
+      parsed = block_from c s h _ m.parsed;
+      stands = ap (λ k. block_of k (slots e) r) s ∙ block_added j (slots b) (slots e) grow m.row r m.tree items (p.start ∙ b.entries.table.vec.ok.0) (omega (arith, p.count, long, q)) m.stands;
       frame =
           record {
             step =
@@ -208,10 +199,10 @@ block_in d {n} {base} {a} {b} {e} {c} {c₁} {c₂} {r} ne h q m p =
           };
     }
 
-pub settle_within : {d n base : ℕ} {a b : Arena} {c c₁ : Cursor} → base ≡ vec_len a.waiting → StmtsIn d n a b c c₁ → base ≤ vec_len b.waiting
+pub settle_within : {d n base : ℕ} {a b : Arena} {c c₁ : Cursor} → base ≡ vec_len a.entries.waiting.vec → StmtsIn d n a b c c₁ → base ≤ vec_len b.entries.waiting.vec
 settle_within q m = omega (arith, q, waited m)
 
-pub settle_room : (base : ℕ) {d n m : ℕ} {a b : Arena} {c c₁ : Cursor} → Room a c.used → StmtsIn d n a b c c₁ → c₁.used.statements ≤ m → vec_len b.entries + (vec_len b.waiting - base) ≤ m
+pub settle_room : (base : ℕ) {d n m : ℕ} {a b : Arena} {c c₁ : Cursor} → Room a c.used → StmtsIn d n a b c c₁ → c₁.used.statements ≤ m → vec_len b.entries.table.vec + (vec_len b.entries.waiting.vec - base) ≤ m
 settle_room base r m h = omega (arith, r.entries, m.step.entries)
 
 -- ---- switch cases
@@ -247,13 +238,13 @@ cases_rows d s =
 abbrev pub CaseWaited : Arena → Arena → ReactiveSwitchCase → Type 0
 CaseWaited a b k =
     record {
-      items : vec_items b.casing ≡ vec_items a.casing ++ k ∷ [];
-      len : vec_len b.casing ≡ vec_len a.casing + 1;
+      items : vec_items b.cases.waiting.vec ≡ vec_items a.cases.waiting.vec ++ k ∷ [];
+      len : vec_len b.cases.waiting.vec ≡ vec_len a.cases.waiting.vec + 1;
       inner : b.inner ≡ a.inner;
-      statements : b.statements ≡ a.statements;
-      entries : b.entries ≡ a.entries;
-      cases : b.cases ≡ a.cases;
-      waiting : b.waiting ≡ a.waiting;
+      statements : b.statements.vec ≡ a.statements.vec;
+      entries : b.entries.table.vec ≡ a.entries.table.vec;
+      cases : b.cases.table.vec ≡ a.cases.table.vec;
+      waiting : b.entries.waiting.vec ≡ a.entries.waiting.vec;
     }
 
 case_waited_grow : (a b : Arena) (k : ReactiveSwitchCase) → CaseWaited a b k → SlotsGrow (slots a) (slots b)
@@ -300,7 +291,7 @@ cases_after {d} {n} {a} {b} {e} {f} {c} {c₁} {c₂} {c₃} {k} m h x p =
             cases = omega (arith, m.step.cases, x.frame.step.cases, w.cases, ap vec_len p.cases, p.len);
           };
       waiting = ap vec_items p.waiting ∙ x.frame.waiting ∙ m.waiting;
-      casing = p.items ∙ ap (λ l. l ++ k ∷ []) (x.frame.casing ∙ m.casing) ∙ append_assoc (vec_items a.casing) m.row (k ∷ []);
+      casing = p.items ∙ ap (λ l. l ++ k ∷ []) (x.frame.casing ∙ m.casing) ∙ append_assoc (vec_items a.cases.waiting.vec) m.row (k ∷ []);
     }
 
 pub cases_stop : {d n k : ℕ} {a b : Arena} {c c₁ : Cursor} {x : FileFault} → n < k → CasesIn d n a b c c₁ → one_case d c₁ ≡ Err x → cases_read (block d) k c ≡ Err x
@@ -312,41 +303,36 @@ case_short d c h = ap (λ r. onto r (λ _. case_read d)) h
 pub case_further : (d : ℕ) (c : Cursor) {c₁ : Cursor} {x : Read (Option Place × OptBlock)} → begin_case c ≡ Ok (tt, c₁) → case_read d c₁ ≡ x → one_case d c ≡ x
 case_further d c h e = ap (λ r. onto r (λ _. case_read d)) h ∙ e
 
-pub case_room : {d n m : ℕ} {a b e : Arena} {c c₁ c₂ c₃ : Cursor} {k : ReactiveSwitchCase} → Room a c.used → CasesIn d n a b c c₁ → begin_case c₁ ≡ Ok (tt, c₂) → BlockIn (case_read d) (case_in d) b e c₂ c₃ k → c₃.used.cases ≤ m → vec_len e.casing < m
-case_room {c₁ = c₁} {c₂ = c₂} r m h x k =
-    let w = case_begun c₁ (tt, c₂) h in
-    omega (arith, r.cases, m.step.cases, x.frame.step.cases, w.cases)
-
 -- the row of cases
 abbrev pub CasesSettled : Arena → Arena → ℕ → Range → Type 0
 CasesSettled a b base r =
     record {
-      start : r.start ≡ vec_len a.cases;
-      count : r.count ≡ vec_len a.casing - base;
-      items : vec_items b.cases ≡ vec_items a.cases ++ drop base (vec_items a.casing);
-      len : vec_len b.cases ≡ vec_len a.cases + (vec_len a.casing - base);
-      casing : vec_items b.casing ≡ take base (vec_items a.casing);
-      base : vec_len b.casing ≡ base;
+      start : r.start ≡ vec_len a.cases.table.vec;
+      count : r.count ≡ vec_len a.cases.waiting.vec - base;
+      items : vec_items b.cases.table.vec ≡ vec_items a.cases.table.vec ++ drop base (vec_items a.cases.waiting.vec);
+      len : vec_len b.cases.table.vec ≡ vec_len a.cases.table.vec + (vec_len a.cases.waiting.vec - base);
+      casing : vec_items b.cases.waiting.vec ≡ take base (vec_items a.cases.waiting.vec);
+      base : vec_len b.cases.waiting.vec ≡ base;
       inner : b.inner ≡ a.inner;
-      statements : b.statements ≡ a.statements;
-      entries : b.entries ≡ a.entries;
-      waiting : b.waiting ≡ a.waiting;
+      statements : b.statements.vec ≡ a.statements.vec;
+      entries : b.entries.table.vec ≡ a.entries.table.vec;
+      waiting : b.entries.waiting.vec ≡ a.entries.waiting.vec;
     }
 
-cased : {d n : ℕ} {a b : Arena} {c c₁ : Cursor} (m : CasesIn d n a b c c₁) → vec_len b.casing ≡ vec_len a.casing + length m.row
-cased {a = a} {b = b} m = omega (arith, a.casing.ok.0, b.casing.ok.0, ap length m.casing ∙ length-append (vec_items a.casing) m.row)
+cased : {d n : ℕ} {a b : Arena} {c c₁ : Cursor} (m : CasesIn d n a b c c₁) → vec_len b.cases.waiting.vec ≡ vec_len a.cases.waiting.vec + length m.row
+cased {a = a} {b = b} m = omega (arith, a.cases.waiting.vec.ok.0, b.cases.waiting.vec.ok.0, ap length m.casing ∙ length-append (vec_items a.cases.waiting.vec) m.row)
 
-pub cases_settled : {d n base : ℕ} {a b e : Arena} {c c₁ c₂ : Cursor} {r : Range} → word c ≡ Ok (n, c₁) → base ≡ vec_len a.casing → CasesIn d n a b c₁ c₂ → CasesSettled b e base r → BlockIn (λ q. onto (word q) (cases_read (block d))) (cases_in d) a e c c₂ r
+pub cases_settled : {d n base : ℕ} {a b e : Arena} {c c₁ c₂ : Cursor} {r : Range} → word c ≡ Ok (n, c₁) → base ≡ vec_len a.cases.waiting.vec → CasesIn d n a b c₁ c₂ → CasesSettled b e base r → BlockIn (λ q. onto (word q) (cases_read (block d))) (cases_in d) a e c c₂ r
 cases_settled {d} {n} {base} {a} {b} {e} {c} {c₁} {c₂} {r} h q m p =
     let long = cased m in
-    let at : length (vec_items a.casing) ≡ base = sym (q ∙ a.casing.ok.0) in
-    let new : drop base (vec_items b.casing) ≡ m.row = ap (drop base) m.casing ∙ drop_at (vec_items a.casing) m.row base at in
-    let old : take base (vec_items b.casing) ≡ vec_items a.casing = ap (take base) m.casing ∙ take_at (vec_items a.casing) m.row base at in
-    let items : vec_items e.cases ≡ vec_items b.cases ++ m.row = p.items ∙ ap (λ l. vec_items b.cases ++ l) new in
+    let at : length (vec_items a.cases.waiting.vec) ≡ base = sym (q ∙ a.cases.waiting.vec.ok.0) in
+    let new : drop base (vec_items b.cases.waiting.vec) ≡ m.row = ap (drop base) m.casing ∙ drop_at (vec_items a.cases.waiting.vec) m.row base at in
+    let old : take base (vec_items b.cases.waiting.vec) ≡ vec_items a.cases.waiting.vec = ap (take base) m.casing ∙ take_at (vec_items a.cases.waiting.vec) m.row base at in
+    let items : vec_items e.cases.table.vec ≡ vec_items b.cases.table.vec ++ m.row = p.items ∙ ap (λ l. vec_items b.cases.table.vec ++ l) new in
     let w = word_later c (n, c₁) h in
     let inner = inner_same p.inner (within_same c₂.used) in
     let grow : SlotsGrow (slots b) (slots e) = record { inner = inner.grow; statements = grows_same (ap vec_items p.statements); entries = grows_same (ap vec_items p.entries); cases = record { more = m.row; is = items } } in
-    let row : part (vec_items e.cases) r ≡ Some m.row = part_at (vec_items b.cases) m.row (vec_items e.cases) r items (p.start ∙ b.cases.ok.0) (omega (arith, p.count, long, q)) in
+    let row : part (vec_items e.cases.table.vec) r ≡ Some m.row = part_at (vec_items b.cases.table.vec) m.row (vec_items e.cases.table.vec) r items (p.start ∙ b.cases.table.vec.ok.0) (omega (arith, p.count, long, q)) in
     record {
       tree = m.tree;
       parsed = ap (λ x. onto x (cases_read (block d))) h ∙ m.parsed;
@@ -366,8 +352,8 @@ cases_settled {d} {n} {base} {a} {b} {e} {c} {c₁} {c₂} {r} h q m p =
           };
     }
 
-pub settle_cases_within : {d n base : ℕ} {a b : Arena} {c c₁ : Cursor} → base ≡ vec_len a.casing → CasesIn d n a b c c₁ → base ≤ vec_len b.casing
+pub settle_cases_within : {d n base : ℕ} {a b : Arena} {c c₁ : Cursor} → base ≡ vec_len a.cases.waiting.vec → CasesIn d n a b c c₁ → base ≤ vec_len b.cases.waiting.vec
 settle_cases_within q m = omega (arith, q, cased m)
 
-pub settle_cases_room : (base : ℕ) {d n m : ℕ} {a b : Arena} {c c₁ : Cursor} → Room a c.used → CasesIn d n a b c c₁ → c₁.used.cases ≤ m → vec_len b.cases + (vec_len b.casing - base) ≤ m
+pub settle_cases_room : (base : ℕ) {d n m : ℕ} {a b : Arena} {c c₁ : Cursor} → Room a c.used → CasesIn d n a b c c₁ → c₁.used.cases ≤ m → vec_len b.cases.table.vec + (vec_len b.cases.waiting.vec - base) ≤ m
 settle_cases_room base r m h = omega (arith, r.cases, m.step.cases)

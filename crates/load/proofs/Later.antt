@@ -129,16 +129,6 @@ place_begun c q e = within_is (counted_used _ _ c q e)
 pub case_begun : (c : Cursor) → From (case_more c.used) (begin_case c)
 case_begun c q e = within_is (counted_used _ _ c q e)
 
-pub statement_later : Later begin_statement
-statement_later c q e =
-    let h = statement_begun c q e in
-    record { statements = omega (arith, h.statements); values = h.values; places = h.places; identifiers = h.identifiers; scopes = h.scopes; declarations = h.declarations; cases = h.cases }
-
-pub begin_case_later : Later begin_case
-begin_case_later c q e =
-    let h = case_begun c q e in
-    record { statements = h.statements; values = h.values; places = h.places; identifiers = h.identifiers; scopes = h.scopes; declarations = h.declarations; cases = omega (arith, h.cases) }
-
 pub place_counted : (c : Cursor) → From (place_more c.used) (place c)
 unfolding place
 place_counted c =

@@ -1,5 +1,7 @@
 -- Words of a part of the bytes, where the part begins and ends with a word. Assumes nothing.
-use Rattle.std.proofs.Common.{◌≡◌, ℕ, zero, suc, ◌+◌, ◌-◌, ◌*◌, ◌/◌, ◌≤◌, true, false, cond, List, [], ◌∷◌, length, get_or, take, drop, Err, sym, refl, ap, ◌∙◌, arith, length-drop, length-take-le}
+use Rattle.std.proofs.Common.{◌≡◌, ℕ, zero, suc, ◌+◌, ◌-◌, ◌*◌, ◌/◌, ◌<◌, ◌≤◌, true, false, cond, List, [], ◌∷◌, length, get_or, take, drop, Err, refl, ap, ◌∙◌, arith, length-drop, length-take-le, w32}
+use Rattle.std.specs.Int.{from_le_bytes}
+use Rattle.std.specs.Simd.{first_chunks}
 use Rattle.hir.specs.declared.used.Used.{Used}
 use Rattle.format.specs.declared.fault.FileFault.TheVariants.{Reading}
 use Rattle.format.specs.Parse.{to_end}
@@ -31,16 +33,14 @@ words_part from to bs h k =
     ∙ words_take (to - from) (drop (from * 4) bs) (omega (arith, length-drop (from * 4) bs))
     ∙ ap (take (to - from)) (words_drop from bs (omega arith))
 
-pub words_at : (k : ℕ) (bs : List ℕ) → k * 4 + 4 ≤ length bs → get_or (words bs) k 0 ≡ get_or bs (k * 4) 0 + get_or bs (k * 4 + 1) 0 * 256 + get_or bs (k * 4 + 2) 0 * 65536 + get_or bs (k * 4 + 3) 0 * 16777216
-words_at k [] h = absurd (omega arith)
-words_at k (a ∷ []) h = absurd (omega arith)
-words_at k (a ∷ b ∷ []) h = absurd (omega arith)
-words_at k (a ∷ b ∷ c ∷ []) h = absurd (omega arith)
-words_at zero (a ∷ b ∷ c ∷ d ∷ bs) h = refl
-words_at (suc k) (a ∷ b ∷ c ∷ d ∷ bs) h =
-    let at : (n j : ℕ) → n ≡ suc (suc (suc (suc j))) → get_or bs j 0 ≡ get_or (a ∷ b ∷ c ∷ d ∷ bs) n 0 = λ n j e. ap (λ m. get_or (a ∷ b ∷ c ∷ d ∷ bs) m 0) (sym e) in
-    words_at k bs (omega (arith, four k))
-    ∙ (λ i. at (suc k * 4) (k * 4) (four k) i + at (suc k * 4 + 1) (k * 4 + 1) (omega arith) i * 256 + at (suc k * 4 + 2) (k * 4 + 2) (omega arith) i * 65536 + at (suc k * 4 + 3) (k * 4 + 3) (omega arith) i * 16777216)
+pub quad_at : (n k : ℕ) (bs : List ℕ) → k < n → n * 4 ≤ length bs → from_le_bytes w32 (get_or (first_chunks 4 n bs) k []) ≡ get_or (words bs) k 0
+quad_at zero k bs h l = absurd (omega arith)
+quad_at (suc n) k [] h l = absurd (omega (arith, four n))
+quad_at (suc n) k (a ∷ []) h l = absurd (omega (arith, four n))
+quad_at (suc n) k (a ∷ b ∷ []) h l = absurd (omega (arith, four n))
+quad_at (suc n) k (a ∷ b ∷ c ∷ []) h l = absurd (omega (arith, four n))
+quad_at (suc n) zero (a ∷ b ∷ c ∷ d ∷ bs) h l = refl
+quad_at (suc n) (suc k) (a ∷ b ∷ c ∷ d ∷ bs) h l = quad_at n k bs (omega arith) (omega (arith, four n))
 
 pub words_length : (bs : List ℕ) → length (words bs) ≡ length bs / 4
 words_length [] = refl

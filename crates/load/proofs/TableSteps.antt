@@ -6,10 +6,15 @@ use Rattle.hir.specs.declared.environment.Identifier.{Identifier}
 use Rattle.hir.specs.declared.environment.ReactiveScope.{ReactiveScope}
 use Rattle.hir.specs.declared.environment.ReactiveScopeDeclaration.{ReactiveScopeDeclaration}
 use Rattle.hir.specs.declared.environment.ReactiveScopeEarlyReturn.{ReactiveScopeEarlyReturn}
+use Rattle.hir.specs.declared.used.Used.{Used}
 use Rattle.hir.specs.Held.{owned, scopes_from}
+use Rattle.hir.specs.Limits.{Within, limits}
 use Rattle.format.specs.declared.fault.FileFault.{FileFault}
 use Rattle.format.specs.Parse.{Cursor, Read, onto, give, word, option, times, until_end, every, begin_scope, identifier, early_read, declaration, scope_info}
-use Rattle.load.specs.Environments.{none_left, TablesRoom, IdentifiersIn, IdentifiersMid, declared, DeclarationsIn, ScopeIn, Owners, infos, ScopesIn, ScopesMid, Midway}
+use Rattle.load.specs.Environments.{none_left, TablesRoom, IdentifiersMid, declared, DeclarationsIn, ScopeIn, Owners, infos, ScopesMid, Midway}
+use Rattle.load.specs.Files.{NoneIn, IdentifiersRead, ScopesRead}
+use Rattle.load.proofs.FileSteps.{whole_ok}
+use Rattle.load.proofs.Lies.{none_none}
 use Rattle.load.proofs.Iterate.{Repeats, many_snoc, many_stop, onto_onto}
 use Rattle.load.proofs.Later.{word_later, option_later, early_later, identifier_counted, declaration_counted, scope_begun}
 use Rattle.load.proofs.Shorter.{Shorter, identifier_shorter, scope_shorter}
@@ -60,11 +65,19 @@ mid_end p {row} {c} {d} m h =
 abbrev pub IdentifierAdded : Environment → Environment → Identifier → Type 0
 IdentifierAdded a b i =
     record {
-      items : vec_items b.identifiers ≡ vec_items a.identifiers ++ i ∷ [];
-      len : vec_len b.identifiers ≡ vec_len a.identifiers + 1;
-      scopes : b.scopes ≡ a.scopes;
-      declarations : b.declarations ≡ a.declarations;
+      items : vec_items b.identifiers.vec ≡ vec_items a.identifiers.vec ++ i ∷ [];
+      len : vec_len b.identifiers.vec ≡ vec_len a.identifiers.vec + 1;
+      scopes : b.scopes.vec ≡ a.scopes.vec;
+      declarations : b.declarations.vec ≡ a.declarations.vec;
       counters : b.counters ≡ a.counters;
+    }
+
+pub none_room : {a : Environment} (u : Used) → NoneIn a → TablesRoom a u
+none_room {a} u n =
+    record {
+      identifiers = omega (arith, a.identifiers.vec.ok.0, ap length n.identifiers);
+      scopes = omega (arith, a.scopes.vec.ok.0, ap length n.scopes);
+      declarations = omega (arith, a.declarations.vec.ok.0, ap length n.declarations);
     }
 
 pub identifiers_first : {a : Environment} (c : Cursor) → TablesRoom a c.used → IdentifiersMid a a c c
@@ -76,28 +89,37 @@ identifiers_next {a} {b} {e} {c} {d} {f} {i} m h r p =
     record {
       row = m.row ++ i ∷ [];
       mid = mid_next identifier identifier_shorter m.mid h r;
-      items = p.items ∙ ap (λ l. l ++ i ∷ []) m.items ∙ append_assoc (vec_items a.identifiers) m.row (i ∷ []);
+      items = p.items ∙ ap (λ l. l ++ i ∷ []) m.items ∙ append_assoc (vec_items a.identifiers.vec) m.row (i ∷ []);
       room = record { identifiers = omega (arith, m.room.identifiers, w.identifiers, p.len); scopes = omega (arith, m.room.scopes, w.scopes, ap vec_len p.scopes); declarations = omega (arith, m.room.declarations, w.declarations, ap vec_len p.declarations) };
       scopes = p.scopes ∙ m.scopes;
       declarations = p.declarations ∙ m.declarations;
       counters = p.counters ∙ m.counters;
     }
 
-pub identifier_room : {n : ℕ} {a b : Environment} {c d f : Cursor} {i : Identifier} → IdentifiersMid a b c d → identifier d ≡ Ok (i, f) → f.used.identifiers ≤ n → vec_len b.identifiers < n
+pub identifier_room : {n : ℕ} {a b : Environment} {c d f : Cursor} {i : Identifier} → IdentifiersMid a b c d → identifier d ≡ Ok (i, f) → f.used.identifiers ≤ n → vec_len b.identifiers.vec < n
 identifier_room {d = d} {f = f} {i = i} m r h = omega (arith, m.room.identifiers, (identifier_counted d (i, f) r).identifiers)
 
-pub identifiers_in : {a b : Environment} {c d : Cursor} → IdentifiersMid a b c d → none_left d.rest ≡ true → IdentifiersIn a b c d
-identifiers_in m h =
-    record { row = m.row; parsed = mid_end identifier m.mid h; items = m.items; room = m.room; scopes = m.scopes; declarations = m.declarations; counters = m.counters }
+pub identifiers_read : {a b : Environment} {c d : Cursor} → IdentifiersMid a b c d → none_left d.rest ≡ true → Within d.used limits → IdentifiersRead a b c d.used
+identifiers_read {a} {b} {c} {d} m h w =
+    record {
+      row = m.row;
+      parsed = whole_ok (every identifier) c (mid_end identifier m.mid h) (none_none d.rest h);
+      items = m.items;
+      within = w;
+      room = m.room;
+      counters = m.counters;
+      scopes = m.scopes;
+      declarations = m.declarations;
+    }
 
 -- ---- declarations
 abbrev pub DeclarationAdded : Environment → Environment → Declared → Type 0
 DeclarationAdded a b i =
     record {
-      items : vec_items b.declarations ≡ vec_items a.declarations ++ i ∷ [];
-      len : vec_len b.declarations ≡ vec_len a.declarations + 1;
-      identifiers : b.identifiers ≡ a.identifiers;
-      scopes : b.scopes ≡ a.scopes;
+      items : vec_items b.declarations.vec ≡ vec_items a.declarations.vec ++ i ∷ [];
+      len : vec_len b.declarations.vec ≡ vec_len a.declarations.vec + 1;
+      identifiers : b.identifiers.vec ≡ a.identifiers.vec;
+      scopes : b.scopes.vec ≡ a.scopes.vec;
       counters : b.counters ≡ a.counters;
     }
 
@@ -111,16 +133,13 @@ declared_after : (n : ℕ) (ds : List ReactiveScopeDeclaration) (d : ReactiveSco
 declared_after n [] d = refl
 declared_after n (e ∷ ds) d = ap (λ l. record { owner = n; declaration = e } ∷ l) (declared_after n ds d)
 
-pub declarations_none : {o : ℕ} {a : Environment} {c : Cursor} → TablesRoom a c.used → DeclarationsIn o 0 a a c c
-declarations_none r = record { row = []; parsed = refl; items = sym (append-nil _); room = r; later = omega arith; scopes = refl; identifiers = refl; counters = refl }
-
 pub declarations_after : {o n : ℕ} {a b e : Environment} {c d f : Cursor} {x : ReactiveScopeDeclaration} → DeclarationsIn o n a b c d → declaration d ≡ Ok (x, f) → DeclarationAdded b e (record { owner = o; declaration = x }) → DeclarationsIn o (n + 1) a e c f
 declarations_after {o} {n} {a} {b} {e} {c} {d} {f} {x} m r p =
     let w = declaration_counted d (x, f) r in
     record {
       row = after m.row x;
       parsed = ap (λ k. times declaration k c) (add-one n) ∙ many_snoc (times declaration) declaration ◌∷◌ after [] declarations_repeat n c (m.row, d) (x, f) m.parsed r;
-      items = p.items ∙ ap (λ l. l ++ record { owner = o; declaration = x } ∷ []) m.items ∙ append_assoc (vec_items a.declarations) (declared o m.row) _ ∙ ap (λ l. vec_items a.declarations ++ l) (sym (declared_after o m.row x));
+      items = p.items ∙ ap (λ l. l ++ record { owner = o; declaration = x } ∷ []) m.items ∙ append_assoc (vec_items a.declarations.vec) (declared o m.row) _ ∙ ap (λ l. vec_items a.declarations.vec ++ l) (sym (declared_after o m.row x));
       room = record { identifiers = omega (arith, m.room.identifiers, w.identifiers, ap vec_len p.identifiers); scopes = omega (arith, m.room.scopes, w.scopes, ap vec_len p.scopes); declarations = omega (arith, m.room.declarations, w.declarations, p.len) };
       later = omega (arith, m.later, w.scopes);
       scopes = p.scopes ∙ m.scopes;
@@ -131,17 +150,17 @@ declarations_after {o} {n} {a} {b} {e} {c} {d} {f} {x} m r p =
 pub declarations_stop : {o n k : ℕ} {a b : Environment} {c d : Cursor} {x : FileFault} → n < k → DeclarationsIn o n a b c d → declaration d ≡ Err x → times declaration k c ≡ Err x
 declarations_stop {o} {n} {k} {c = c} {d = d} {x = x} h m e = many_stop (times declaration) declaration ◌∷◌ after [] declarations_repeat n k c (m.row, d) x h m.parsed e
 
-pub declaration_room : {o n k : ℕ} {a b : Environment} {c d f : Cursor} {x : ReactiveScopeDeclaration} → DeclarationsIn o n a b c d → declaration d ≡ Ok (x, f) → f.used.declarations ≤ k → vec_len b.declarations < k
+pub declaration_room : {o n k : ℕ} {a b : Environment} {c d f : Cursor} {x : ReactiveScopeDeclaration} → DeclarationsIn o n a b c d → declaration d ≡ Ok (x, f) → f.used.declarations ≤ k → vec_len b.declarations.vec < k
 declaration_room {d = d} {f = f} {x = x} m r h = omega (arith, m.room.declarations, (declaration_counted d (x, f) r).declarations)
 
 -- ---- a scope
 abbrev pub ScopeAdded : Environment → Environment → ReactiveScope → Type 0
 ScopeAdded a b i =
     record {
-      items : vec_items b.scopes ≡ vec_items a.scopes ++ i ∷ [];
-      len : vec_len b.scopes ≡ vec_len a.scopes + 1;
-      identifiers : b.identifiers ≡ a.identifiers;
-      declarations : b.declarations ≡ a.declarations;
+      items : vec_items b.scopes.vec ≡ vec_items a.scopes.vec ++ i ∷ [];
+      len : vec_len b.scopes.vec ≡ vec_len a.scopes.vec + 1;
+      identifiers : b.identifiers.vec ≡ a.identifiers.vec;
+      declarations : b.declarations.vec ≡ a.declarations.vec;
       counters : b.counters ≡ a.counters;
     }
 
@@ -154,7 +173,7 @@ begun_room c c₁ c₂ {c₃} {y} {n} r h j k =
       omega (arith, u.scopes, v.scopes, w.scopes),
     )
 
-pub scope_in : {n o : ℕ} {a b e : Environment} {c c₁ c₂ c₃ c₄ : Cursor} {y : Option ReactiveScopeEarlyReturn} → TablesRoom a c.used → begin_scope c ≡ Ok (tt, c₁) → option early_read c₁ ≡ Ok (y, c₂) → word c₂ ≡ Ok (n, c₃) → o ≡ vec_len a.scopes → DeclarationsIn o n a b c₃ c₄ → ScopeAdded b e (record { early = y }) → ScopeIn a e c c₄
+pub scope_in : {n o : ℕ} {a b e : Environment} {c c₁ c₂ c₃ c₄ : Cursor} {y : Option ReactiveScopeEarlyReturn} → TablesRoom a c.used → begin_scope c ≡ Ok (tt, c₁) → option early_read c₁ ≡ Ok (y, c₂) → word c₂ ≡ Ok (n, c₃) → o ≡ vec_len a.scopes.vec → DeclarationsIn o n a b c₃ c₄ → ScopeAdded b e (record { early = y }) → ScopeIn a e c c₄
 unfolding scope_info
 scope_in {n} {o} {a} {b} {e} {c} {c₁} {c₂} {c₃} {c₄} {y} r h j k q m p =
     let s = (begun_room {a = a} c c₁ c₂ r h j k).1 in
@@ -162,7 +181,7 @@ scope_in {n} {o} {a} {b} {e} {c} {c₁} {c₂} {c₃} {c₄} {y} r h j k q m p =
       info = record { early = y; declarations = m.row };
       parsed = rw (h, j, k, m.parsed) refl;
       scopes = p.items ∙ ap (λ l. l ++ record { early = y } ∷ []) (ap vec_items m.scopes);
-      declarations = ap vec_items p.declarations ∙ m.items ∙ ap (λ x. vec_items a.declarations ++ declared x m.row) q;
+      declarations = ap vec_items p.declarations ∙ m.items ∙ ap (λ x. vec_items a.declarations.vec ++ declared x m.row) q;
       room = record { identifiers = omega (arith, m.room.identifiers, ap vec_len p.identifiers); scopes = omega (arith, r.scopes, s, m.later, p.len, ap vec_len m.scopes); declarations = omega (arith, m.room.declarations, ap vec_len p.declarations) };
       identifiers = p.identifiers ∙ m.identifiers;
       counters = p.counters ∙ m.counters;
@@ -202,36 +221,49 @@ from_last x [] s ds = ap (λ n. record { early = s.early; declarations = owned n
 from_last x (t ∷ ss) s ds =
     ap (λ l. record { early = t.early; declarations = owned x ds } ∷ l) (from_last (suc x) ss s ds ∙ ap (λ n. scopes_from (suc x) ss ds ++ record { early = s.early; declarations = owned n ds } ∷ []) (let e : suc x + length ss ≡ x + suc (length ss) = omega arith in e))
 
-more : (e b : Environment) {d f : Cursor} → ScopeIn b e d f → vec_len e.scopes ≡ vec_len b.scopes + 1
-more e b s = omega (arith, e.scopes.ok.0, b.scopes.ok.0, ap length s.scopes ∙ length-append (vec_items b.scopes) (record { early = s.info.early } ∷ []))
+more : (e b : Environment) {d f : Cursor} → ScopeIn b e d f → vec_len e.scopes.vec ≡ vec_len b.scopes.vec + 1
+more e b s = omega (arith, e.scopes.vec.ok.0, b.scopes.vec.ok.0, ap length s.scopes ∙ length-append (vec_items b.scopes.vec) (record { early = s.info.early } ∷ []))
 
 pub scopes_first : {a : Environment} (c : Cursor) → TablesRoom a c.used → Owners a → ScopesMid a a c c
 scopes_first c r o = record { row = []; mid = mid_first scope_info c; stands = sym (append-nil _); owners = o; room = r; identifiers = refl; counters = refl }
 
 pub scopes_next : {a b e : Environment} {c d f : Cursor} → ScopesMid a b c d → none_left d.rest ≡ false → ScopeIn b e d f → ScopesMid a e c f
 scopes_next {a} {b} {e} {c} {d} {f} m h s =
-    let n : ℕ = vec_len b.scopes in
-    let long : n ≡ length (vec_items b.scopes) = b.scopes.ok.0 in
+    let n : ℕ = vec_len b.scopes.vec in
+    let long : n ≡ length (vec_items b.scopes.vec) = b.scopes.vec.ok.0 in
     let i = s.info in
-    let here : owned n (vec_items e.declarations) ≡ i.declarations =
-    ap (owned n) s.declarations ∙ owned_append n (vec_items b.declarations) (declared n i.declarations) ∙ ap (λ l. l ++ owned n (declared n i.declarations)) (m.owners n (omega arith)) ∙ owned_own n i.declarations in
+    let here : owned n (vec_items e.declarations.vec) ≡ i.declarations =
+    ap (owned n) s.declarations ∙ owned_append n (vec_items b.declarations.vec) (declared n i.declarations) ∙ ap (λ l. l ++ owned n (declared n i.declarations)) (m.owners n (omega arith)) ∙ owned_own n i.declarations in
     let grown : infos e ≡ infos b ++ i ∷ [] =
-    ap (λ l. scopes_from 0 l (vec_items e.declarations)) s.scopes
-    ∙ from_last 0 (vec_items b.scopes) (record { early = i.early }) (vec_items e.declarations)
+    ap (λ l. scopes_from 0 l (vec_items e.declarations.vec)) s.scopes
+    ∙ from_last 0 (vec_items b.scopes.vec) (record { early = i.early }) (vec_items e.declarations.vec)
     ∙ ap₂ (λ l r. l ++ record { early = i.early; declarations = r } ∷ [])
-    (ap (scopes_from 0 (vec_items b.scopes)) s.declarations ∙ from_kept 0 n (vec_items b.scopes) (vec_items b.declarations) i.declarations (omega (arith, long)))
-    (ap (λ k. owned k (vec_items e.declarations)) (let q : 0 + length (vec_items b.scopes) ≡ n = omega (arith, long) in q) ∙ here) in
+    (ap (scopes_from 0 (vec_items b.scopes.vec)) s.declarations ∙ from_kept 0 n (vec_items b.scopes.vec) (vec_items b.declarations.vec) i.declarations (omega (arith, long)))
+    (ap (λ k. owned k (vec_items e.declarations.vec)) (let q : 0 + length (vec_items b.scopes.vec) ≡ n = omega (arith, long) in q) ∙ here) in
     record {
       row = m.row ++ i ∷ [];
       mid = mid_next scope_info scope_shorter m.mid h s.parsed;
       stands = grown ∙ ap (λ l. l ++ i ∷ []) m.stands ∙ append_assoc (infos a) m.row (i ∷ []);
       owners = λ x k.
-          ap (owned x) s.declarations ∙ owned_append x (vec_items b.declarations) (declared n i.declarations)
+          ap (owned x) s.declarations ∙ owned_append x (vec_items b.declarations.vec) (declared n i.declarations)
           ∙ ap₂ (λ l r. l ++ r) (m.owners x (omega (arith, more e b s))) (owned_other x n i.declarations (omega (arith, more e b s)));
       room = s.room;
       identifiers = s.identifiers ∙ m.identifiers;
       counters = s.counters ∙ m.counters;
     }
 
-pub scopes_in : {a b : Environment} {c d : Cursor} → ScopesMid a b c d → none_left d.rest ≡ true → ScopesIn a b c d
-scopes_in m h = record { row = m.row; parsed = mid_end scope_info m.mid h; stands = m.stands; owners = m.owners; room = m.room; identifiers = m.identifiers; counters = m.counters }
+pub no_owners : (a : Environment) → vec_items a.declarations.vec ≡ [] → Owners a
+no_owners a d = λ x h. ap (owned x) d
+
+pub scopes_read : {a b : Environment} {c d : Cursor} → ScopesMid a b c d → none_left d.rest ≡ true → Within d.used limits → ScopesRead a b c d.used
+scopes_read {a} {b} {c} {d} m h w =
+    record {
+      row = m.row;
+      parsed = whole_ok (every scope_info) c (mid_end scope_info m.mid h) (none_none d.rest h);
+      stands = m.stands;
+      owners = m.owners;
+      within = w;
+      room = m.room;
+      counters = m.counters;
+      identifiers = m.identifiers;
+    }

@@ -1,5 +1,5 @@
 -- What each way through the reading of a value leaves. Assumes nothing.
-use Rattle.std.proofs.Common.{◌≡◌, ℕ, suc, ◌+◌, ◌-◌, ◌<◌, ◌≤◌, Bool, ◌≢◌, List, [], ◌∷◌, ◌++◌, length, take, drop, Some, Ok, Err, vec_items, vec_len, Option, Result, sym, refl, ap, ◌∙◌, append_assoc, append-nil, add-one, arith, length-append}
+use Rattle.std.proofs.Common.{◌≡◌, ℕ, suc, ◌+◌, ◌-◌, ◌<◌, ◌≤◌, Bool, List, [], ◌∷◌, ◌++◌, length, take, drop, Some, Ok, Err, vec_items, vec_len, Option, Result, sym, refl, ap, ◌∙◌, append_assoc, append-nil, add-one, arith, length-append}
 use Rattle.std.proofs.lemmas.List.{drop_at, take_at}
 use Rattle.std.proofs.lemmas.Result.{MatchResult-weaker}
 use Rattle.hir.specs.declared.place.Place.{Place}
@@ -96,33 +96,30 @@ instr_in_row d {i} {v} {s} {l} {a} {b} {c} {c₁} {c₂} {c₃} {c₄} h k x j =
 abbrev pub Added : ValueArena → ValueArena → ReactiveValue → ℕ → Type 0
 Added a b v k =
     record {
-      slot : k ≡ vec_len a.values;
-      items : vec_items b.values ≡ vec_items a.values ++ v ∷ [];
-      len : vec_len b.values ≡ vec_len a.values + 1;
-      instructions : b.instructions ≡ a.instructions;
-      places : b.places ≡ a.places;
-      waiting : b.waiting ≡ a.waiting;
+      slot : k ≡ vec_len a.values.vec;
+      items : vec_items b.values.vec ≡ vec_items a.values.vec ++ v ∷ [];
+      len : vec_len b.values.vec ≡ vec_len a.values.vec + 1;
+      instructions : b.instructions.table.vec ≡ a.instructions.table.vec;
+      places : b.places.vec ≡ a.places.vec;
+      waiting : b.instructions.waiting.vec ≡ a.instructions.waiting.vec;
     }
 
-pub value_from : (d : ℕ) (c : Cursor) {c₁ : Cursor} → d ≢ 0 → begin_value c ≡ Ok (tt, c₁) → (x : Read Val) → val_read (value (d - 1)) c₁ ≡ x → value d c ≡ x
-value_from d c {c₁} n h x e =
-    let s : d ≡ suc (d - 1) = omega arith in
-    ap (λ k. value k c) s ∙ ap (λ r. onto r (λ _. val_read (value (d - 1)))) h ∙ e
+pub value_from : {d j : ℕ} (c : Cursor) {c₁ : Cursor} → d ≡ suc j → begin_value c ≡ Ok (tt, c₁) → (x : Read Val) → val_read (value j) c₁ ≡ x → value d c ≡ x
+value_from {d} {j} c s h x e =
+    ap (λ k. value k c) s ∙ ap (λ r. onto r (λ _. val_read (value j))) h ∙ e
 
-pub value_short : (d : ℕ) (c : Cursor) {e : FileFault} → d ≢ 0 → begin_value c ≡ Err e → value d c ≡ Err e
-value_short d c n h =
-    let s : d ≡ suc (d - 1) = omega arith in
-    ap (λ k. value k c) s ∙ ap (λ r. onto r (λ _. val_read (value (d - 1)))) h
+pub value_short : {d j : ℕ} (c : Cursor) {e : FileFault} → d ≡ suc j → begin_value c ≡ Err e → value d c ≡ Err e
+value_short {d} {j} c s h =
+    ap (λ k. value k c) s ∙ ap (λ r. onto r (λ _. val_read (value j))) h
 
-pub value_in : (d : ℕ) {k : ℕ} {a b e : ValueArena} {c c₁ f : Cursor} {v : ReactiveValue} → d ≢ 0 → begin_value c ≡ Ok (tt, c₁) → ValueIn (val_read (value (d - 1))) (val_in (d - 1)) a b c₁ f v → Added b e v k → ValueIn (value d) (value_of d) a e c f k
-value_in d {k} {a} {b} {e} {c} {c₁} {f} {v} n h m p =
-    let s : d ≡ suc (d - 1) = omega arith in
+pub value_in : {d j k : ℕ} {a b e : ValueArena} {c c₁ f : Cursor} {v : ReactiveValue} → d ≡ suc j → begin_value c ≡ Ok (tt, c₁) → ValueIn (val_read (value j)) (val_in j) a b c₁ f v → Added b e v k → ValueIn (value d) (value_of d) a e c f k
+value_in {d} {j} {k} {a} {b} {e} {c} {c₁} {f} {v} s h m p =
     let grow : ValuesGrow (value_slots b) (value_slots e) = record { values = record { more = v ∷ []; is = p.items }; instructions = grows_same (ap vec_items p.instructions); places = grows_same (ap vec_items p.places) } in
     let w = value_begun c (tt, c₁) h in
     record {
       tree = m.tree;
-      parsed = value_from d c n h _ m.parsed;
-      stands = ap (λ j. value_of j (value_slots e) k) s ∙ value_added (d - 1) (value_slots b) (value_slots e) grow v m.tree k p.items (p.slot ∙ b.values.ok.0) m.stands;
+      parsed = value_from c s h _ m.parsed;
+      stands = ap (λ i. value_of i (value_slots e) k) s ∙ value_added j (value_slots b) (value_slots e) grow v m.tree k p.items (p.slot ∙ b.values.vec.ok.0) m.stands;
       step =
           record {
             grow = values_more m.step.grow grow;
@@ -152,11 +149,11 @@ instrs_rows f = record { none = refl; next = λ i is. refl; last = λ x. refl; b
 abbrev pub Waited : ValueArena → ValueArena → ReactiveInstruction → Type 0
 Waited a b i =
     record {
-      items : vec_items b.waiting ≡ vec_items a.waiting ++ i ∷ [];
-      len : vec_len b.waiting ≡ vec_len a.waiting + 1;
-      values : b.values ≡ a.values;
-      instructions : b.instructions ≡ a.instructions;
-      places : b.places ≡ a.places;
+      items : vec_items b.instructions.waiting.vec ≡ vec_items a.instructions.waiting.vec ++ i ∷ [];
+      len : vec_len b.instructions.waiting.vec ≡ vec_len a.instructions.waiting.vec + 1;
+      values : b.values.vec ≡ a.values.vec;
+      instructions : b.instructions.table.vec ≡ a.instructions.table.vec;
+      places : b.places.vec ≡ a.places.vec;
     }
 
 pub instrs_none : {d : ℕ} {a : ValueArena} {c : Cursor} → InstrsIn d 0 a a c c
@@ -182,7 +179,7 @@ instrs_after {d} {n} {a} {b} {e} {f} {c} {c₁} {c₂} {c₃} {i} m h x p =
             places = omega (arith, m.step.places, x.step.places, w.places, ap vec_len p.places);
             instructions = omega (arith, m.step.instructions, x.step.instructions, w.statements, ap vec_len p.instructions, p.len);
           };
-      waiting = p.items ∙ ap (λ l. l ++ i ∷ []) (x.waiting ∙ m.waiting) ∙ append_assoc (vec_items a.waiting) m.row (i ∷ []);
+      waiting = p.items ∙ ap (λ l. l ++ i ∷ []) (x.waiting ∙ m.waiting) ∙ append_assoc (vec_items a.instructions.waiting.vec) m.row (i ∷ []);
     }
 
 pub instrs_stop : {d n k : ℕ} {a b : ValueArena} {c c₁ : Cursor} {x : FileFault} → n < k → InstrsIn d n a b c c₁ → one_instr d c₁ ≡ Err x → instrs_read (value d) k c ≡ Err x
@@ -198,31 +195,29 @@ one_from d c h e = ap (λ r. onto r (λ _. instr_read (value d))) h ∙ e
 abbrev pub Settled : ValueArena → ValueArena → ℕ → Range → Type 0
 Settled a b base r =
     record {
-      start : r.start ≡ vec_len a.instructions;
-      count : r.count ≡ vec_len a.waiting - base;
-      items : vec_items b.instructions ≡ vec_items a.instructions ++ drop base (vec_items a.waiting);
-      len : vec_len b.instructions ≡ vec_len a.instructions + (vec_len a.waiting - base);
-      waiting : vec_items b.waiting ≡ take base (vec_items a.waiting);
-      base : vec_len b.waiting ≡ base;
-      values : b.values ≡ a.values;
-      places : b.places ≡ a.places;
+      start : r.start ≡ vec_len a.instructions.table.vec;
+      count : r.count ≡ vec_len a.instructions.waiting.vec - base;
+      items : vec_items b.instructions.table.vec ≡ vec_items a.instructions.table.vec ++ drop base (vec_items a.instructions.waiting.vec);
+      len : vec_len b.instructions.table.vec ≡ vec_len a.instructions.table.vec + (vec_len a.instructions.waiting.vec - base);
+      waiting : vec_items b.instructions.waiting.vec ≡ take base (vec_items a.instructions.waiting.vec);
+      base : vec_len b.instructions.waiting.vec ≡ base;
     }
 
-pub waited : {d n : ℕ} {a b : ValueArena} {c c₁ : Cursor} (m : InstrsIn d n a b c c₁) → vec_len b.waiting ≡ vec_len a.waiting + length m.row
-waited {a = a} {b = b} m = omega (arith, a.waiting.ok.0, b.waiting.ok.0, ap length m.waiting ∙ length-append (vec_items a.waiting) m.row)
+pub waited : {d n : ℕ} {a b : ValueArena} {c c₁ : Cursor} (m : InstrsIn d n a b c c₁) → vec_len b.instructions.waiting.vec ≡ vec_len a.instructions.waiting.vec + length m.row
+waited {a = a} {b = b} m = omega (arith, a.instructions.waiting.vec.ok.0, b.instructions.waiting.vec.ok.0, ap length m.waiting ∙ length-append (vec_items a.instructions.waiting.vec) m.row)
 
 abbrev pub instrs_listed : ℕ → Cursor → Read Instrs
 instrs_listed d c = onto (word c) (instrs_read (value d))
 
-pub row_settled : {d n base : ℕ} {a b e : ValueArena} {c c₁ c₂ : Cursor} {r : Range} → word c ≡ Ok (n, c₁) → base ≡ vec_len a.waiting → InstrsIn d n a b c₁ c₂ → Settled b e base r → ValueIn (instrs_listed d) (instrs_in d) a e c c₂ r
-row_settled {d} {n} {base} {a} {b} {e} {c} {c₁} {c₂} {r} h q m p =
+pub row_settled : {d n base : ℕ} {a b e : ValueArena} {c c₁ c₂ : Cursor} {r : Range} → word c ≡ Ok (n, c₁) → base ≡ vec_len a.instructions.waiting.vec → InstrsIn d n a b c₁ c₂ → Settled b e base r → e.values.vec ≡ b.values.vec → e.places.vec ≡ b.places.vec → ValueIn (instrs_listed d) (instrs_in d) a e c c₂ r
+row_settled {d} {n} {base} {a} {b} {e} {c} {c₁} {c₂} {r} h q m p v o =
     let long = waited m in
-    let at : length (vec_items a.waiting) ≡ base = sym (q ∙ a.waiting.ok.0) in
-    let new : drop base (vec_items b.waiting) ≡ m.row = ap (drop base) m.waiting ∙ drop_at (vec_items a.waiting) m.row base at in
-    let old : take base (vec_items b.waiting) ≡ vec_items a.waiting = ap (take base) m.waiting ∙ take_at (vec_items a.waiting) m.row base at in
-    let items : vec_items e.instructions ≡ vec_items b.instructions ++ m.row = p.items ∙ ap (λ l. vec_items b.instructions ++ l) new in
-    let grow : ValuesGrow (value_slots b) (value_slots e) = record { values = grows_same (ap vec_items p.values); instructions = record { more = m.row; is = items }; places = grows_same (ap vec_items p.places) } in
-    let row : part (vec_items e.instructions) r ≡ Some m.row = part_at (vec_items b.instructions) m.row (vec_items e.instructions) r items (p.start ∙ b.instructions.ok.0) (omega (arith, p.count, long, q)) in
+    let at : length (vec_items a.instructions.waiting.vec) ≡ base = sym (q ∙ a.instructions.waiting.vec.ok.0) in
+    let new : drop base (vec_items b.instructions.waiting.vec) ≡ m.row = ap (drop base) m.waiting ∙ drop_at (vec_items a.instructions.waiting.vec) m.row base at in
+    let old : take base (vec_items b.instructions.waiting.vec) ≡ vec_items a.instructions.waiting.vec = ap (take base) m.waiting ∙ take_at (vec_items a.instructions.waiting.vec) m.row base at in
+    let items : vec_items e.instructions.table.vec ≡ vec_items b.instructions.table.vec ++ m.row = p.items ∙ ap (λ l. vec_items b.instructions.table.vec ++ l) new in
+    let grow : ValuesGrow (value_slots b) (value_slots e) = record { values = grows_same (ap vec_items v); instructions = record { more = m.row; is = items }; places = grows_same (ap vec_items o) } in
+    let row : part (vec_items e.instructions.table.vec) r ≡ Some m.row = part_at (vec_items b.instructions.table.vec) m.row (vec_items e.instructions.table.vec) r items (p.start ∙ b.instructions.table.vec.ok.0) (omega (arith, p.count, long, q)) in
     let w = word_later c (n, c₁) h in
     record {
       tree = m.tree;
@@ -232,22 +227,22 @@ row_settled {d} {n} {base} {a} {b} {e} {c} {c₁} {c₂} {r} h q m p =
           record {
             grow = values_more m.step.grow grow;
             later = within_more w m.step.later;
-            values = omega (arith, m.step.values, ap vec_len p.values, w.values);
-            places = omega (arith, m.step.places, ap vec_len p.places, w.places);
+            values = omega (arith, m.step.values, ap vec_len v, w.values);
+            places = omega (arith, m.step.places, ap vec_len o, w.places);
             instructions = omega (arith, m.step.instructions, p.len, p.base, long, q, w.statements);
           };
       waiting = p.waiting ∙ old;
     }
 
-pub settle_within : {d n base : ℕ} {a b : ValueArena} {c c₁ : Cursor} → base ≡ vec_len a.waiting → InstrsIn d n a b c c₁ → base ≤ vec_len b.waiting
+pub settle_within : {d n base : ℕ} {a b : ValueArena} {c c₁ : Cursor} → base ≡ vec_len a.instructions.waiting.vec → InstrsIn d n a b c c₁ → base ≤ vec_len b.instructions.waiting.vec
 settle_within q m = omega (arith, q, waited m)
 
-pub settle_room : (base : ℕ) {d n m : ℕ} {a b : ValueArena} {c c₁ : Cursor} → ValueRoom a c.used → InstrsIn d n a b c c₁ → c₁.used.statements ≤ m → vec_len b.instructions + (vec_len b.waiting - base) ≤ m
+pub settle_room : (base : ℕ) {d n m : ℕ} {a b : ValueArena} {c c₁ : Cursor} → ValueRoom a c.used → InstrsIn d n a b c c₁ → c₁.used.statements ≤ m → vec_len b.instructions.table.vec + (vec_len b.instructions.waiting.vec - base) ≤ m
 settle_room base r m h = omega (arith, r.instructions, m.step.instructions)
 
 pub sequence_in : (d : ℕ) {i v : ℕ} {a b e : ValueArena} {c c₁ c₂ c₃ : Cursor} {r : Range} → ValueIn (instrs_listed d) (instrs_in d) a b c c₁ r → order c₁ ≡ Ok (i, c₂) → ValueIn (value d) (value_of d) b e c₂ c₃ v → ValueIn (sequence_read (value d)) (val_in d) a e c c₃ (SequenceExpression r i v)
 sequence_in d {i} {v} {a} {b} {e} {c} {c₁} {c₂} {c₃} {r} x h y =
-    let o = bound (part (vec_items b.instructions) r) _ x.tree x.stands in
+    let o = bound (part (vec_items b.instructions.table.vec) r) _ x.tree x.stands in
     let row = part_grows y.step.grow.instructions r o.0 o.1 in
     let all = instrs_under _ _ (value_grows d _ _ y.step.grow) o.0 x.tree o.2 in
     record {

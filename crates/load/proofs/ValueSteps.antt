@@ -39,6 +39,9 @@ step_more s t =
 pub room_later : {a : ValueArena} {u v : Used} → ValueRoom a u → Within u v → ValueRoom a v
 room_later r w = record { values = omega (arith, r.values, w.values); places = omega (arith, r.places, w.places); instructions = omega (arith, r.instructions, w.statements) }
 
+pub room_word : (c : Cursor) {a : ValueArena} {w : ℕ} {d : Cursor} → ValueRoom a c.used → word c ≡ Ok (w, d) → ValueRoom a d.used
+room_word c {w = w} {d = d} r e = room_later r (word_later c (w, d) e)
+
 pub room_after : {a b : ValueArena} {u v : Used} → ValueRoom a u → ValueStep a b u v → ValueRoom b v
 room_after r s =
     record { values = omega (arith, r.values, s.values); places = omega (arith, r.places, s.places); instructions = omega (arith, r.instructions, s.instructions) }
@@ -52,11 +55,11 @@ after_leaf {a = a} w same m =
 abbrev pub PlaceAdded : ValueArena → ValueArena → Place → Type 0
 PlaceAdded a b p =
     record {
-      items : vec_items b.places ≡ vec_items a.places ++ p ∷ [];
-      len : vec_len b.places ≡ vec_len a.places + 1;
-      values : b.values ≡ a.values;
-      instructions : b.instructions ≡ a.instructions;
-      waiting : b.waiting ≡ a.waiting;
+      items : vec_items b.places.vec ≡ vec_items a.places.vec ++ p ∷ [];
+      len : vec_len b.places.vec ≡ vec_len a.places.vec + 1;
+      values : b.values.vec ≡ a.values.vec;
+      instructions : b.instructions.table.vec ≡ a.instructions.table.vec;
+      waiting : b.instructions.waiting.vec ≡ a.instructions.waiting.vec;
     }
 
 place_step : {a b : ValueArena} (c : Cursor) {d : Cursor} {p : Place} → place c ≡ Ok (p, d) → PlaceAdded a b p → ValueStep a b c.used d.used
@@ -87,7 +90,7 @@ places_after {n} {a} {b} {e} {c} {d} {f} {p} m r h =
       row = after m.row p;
       parsed = ap (λ k. times place k c) (add-one n) ∙ many_snoc (times place) place ◌∷◌ after [] places_repeat n c (m.row, d) (p, f) m.parsed r;
       long = omega (arith, m.long, length-append m.row (p ∷ []));
-      added = h.items ∙ ap (λ l. l ++ p ∷ []) m.added ∙ append_assoc (vec_items a.places) m.row (p ∷ []);
+      added = h.items ∙ ap (λ l. l ++ p ∷ []) m.added ∙ append_assoc (vec_items a.places.vec) m.row (p ∷ []);
       step = step_more m.step (place_step d r h);
       waiting = ap vec_items h.waiting ∙ m.waiting;
     }
@@ -95,15 +98,15 @@ places_after {n} {a} {b} {e} {c} {d} {f} {p} m r h =
 pub places_stop : {n k : ℕ} {a b : ValueArena} {c d : Cursor} {x : FileFault} → n < k → PlacesIn n a b c d → place d ≡ Err x → times place k c ≡ Err x
 places_stop {n} {k} {c = c} {d = d} {x = x} h m e = many_stop (times place) place ◌∷◌ after [] places_repeat n k c (m.row, d) x h m.parsed e
 
-pub place_room : {n m : ℕ} {a b : ValueArena} {c d f : Cursor} {p : Place} → ValueRoom a c.used → PlacesIn n a b c d → place d ≡ Ok (p, f) → f.used.places ≤ m → vec_len b.places < m
+pub place_room : {n m : ℕ} {a b : ValueArena} {c d f : Cursor} {p : Place} → ValueRoom a c.used → PlacesIn n a b c d → place d ≡ Ok (p, f) → f.used.places ≤ m → vec_len b.places.vec < m
 place_room {d = d} {f = f} {p = p} r m e h = omega (arith, r.places, m.step.places, (place_counted d (p, f) e).places)
 
-pub places_in_row : {n start : ℕ} {a b : ValueArena} {c c₁ d : Cursor} → word c ≡ Ok (n, c₁) → start ≡ vec_len a.places → PlacesIn n a b c₁ d → ValueIn (listed place) places_in a b c d (record { start = start; count = n })
-places_in_row {n} {start} {a} {b} {c} {c₁} {d} w s m =
+pub places_in_row : {n k start : ℕ} {a b : ValueArena} {c c₁ d : Cursor} → word c ≡ Ok (n, c₁) → start ≡ vec_len a.places.vec → n ≡ k → PlacesIn k a b c₁ d → ValueIn (listed place) places_in a b c d (record { start = start; count = n })
+places_in_row {n} {k} {start} {a} {b} {c} {c₁} {d} w s e m =
     record {
       tree = m.row;
-      parsed = ap (λ r. onto r (times place)) w ∙ m.parsed;
-      stands = part_at (vec_items a.places) m.row (vec_items b.places) _ m.added (s ∙ a.places.ok.0) (sym m.long);
+      parsed = ap (λ r. onto r (times place)) w ∙ ap (λ n. times place n c₁) e ∙ m.parsed;
+      stands = part_at (vec_items a.places.vec) m.row (vec_items b.places.vec) _ m.added (s ∙ a.places.vec.ok.0) (e ∙ sym m.long);
       step = step_more (step_later a (word_later c (n, c₁) w)) m.step;
       waiting = m.waiting;
     }
@@ -112,7 +115,7 @@ places_in_row {n} {start} {a} {b} {c} {c₁} {d} w s m =
 pub op_in : {k m s : ℕ} {a b e : ValueArena} {c c₁ c₂ c₃ c₄ c₅ : Cursor} {w o : Range} → below 42 c ≡ Ok (k, c₁) → payload k c₁ ≡ Ok (m, c₂) → ValueIn (listed place) places_in a b c₂ c₃ w → ValueIn (listed place) places_in b e c₃ c₄ o → word c₄ ≡ Ok (s, c₅) → ValueIn op op_of a e c c₅ (record { kind = k; payload = m; written = w; operands = o; span = s })
 unfolding op
 op_in {k} {m} {s} {a} {b} {e} {c} {c₁} {c₂} {c₃} {c₄} {c₅} {w} {o} p q x y z =
-    let first : part (vec_items e.places) w ≡ Some x.tree = part_grows y.step.grow.places w x.tree x.stands in
+    let first : part (vec_items e.places.vec) w ≡ Some x.tree = part_grows y.step.grow.places w x.tree x.stands in
     record {
       tree = record { kind = k; payload = m; written = x.tree; operands = y.tree; span = s };
       parsed = rw (p, q, x.parsed, y.parsed, z) refl;

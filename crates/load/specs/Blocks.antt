@@ -23,23 +23,23 @@ use Rattle.load.specs.Values.{ValueRoom, ValueStep}
 -- what stands in the tables was counted as it began
 pub record Room (a : Arena) (u : Used) : Type 0 where
   pub values : ValueRoom a.inner u
-  pub statements : vec_len a.statements ≤ u.statements
-  pub entries : vec_len a.entries + vec_len a.waiting ≤ u.statements
-  pub cases : vec_len a.cases + vec_len a.casing ≤ u.cases
+  pub statements : vec_len a.statements.vec ≤ u.statements
+  pub entries : vec_len a.entries.table.vec + vec_len a.entries.waiting.vec ≤ u.statements
+  pub cases : vec_len a.cases.table.vec + vec_len a.cases.waiting.vec ≤ u.cases
 
 -- a goes over to b, and what it gains was counted between u and v
 pub record Step (a b : Arena) (u v : Used) : Type 0 where
   pub values : ValueStep a.inner b.inner u v
   pub grow : SlotsGrow (slots a) (slots b)
-  pub statements : vec_len b.statements + u.statements ≤ vec_len a.statements + v.statements
-  pub entries : vec_len b.entries + vec_len b.waiting + u.statements ≤ vec_len a.entries + vec_len a.waiting + v.statements
-  pub cases : vec_len b.cases + vec_len b.casing + u.cases ≤ vec_len a.cases + vec_len a.casing + v.cases
+  pub statements : vec_len b.statements.vec + u.statements ≤ vec_len a.statements.vec + v.statements
+  pub entries : vec_len b.entries.table.vec + vec_len b.entries.waiting.vec + u.statements ≤ vec_len a.entries.table.vec + vec_len a.entries.waiting.vec + v.statements
+  pub cases : vec_len b.cases.table.vec + vec_len b.cases.waiting.vec + u.cases ≤ vec_len a.cases.table.vec + vec_len a.cases.waiting.vec + v.cases
 
 -- such a step, after which nothing more waits
 pub record Frame (a b : Arena) (u v : Used) : Type 0 where
   pub step : Step a b u v
-  pub waiting : vec_items b.waiting ≡ vec_items a.waiting
-  pub casing : vec_items b.casing ≡ vec_items a.casing
+  pub waiting : vec_items b.entries.waiting.vec ≡ vec_items a.entries.waiting.vec
+  pub casing : vec_items b.cases.waiting.vec ≡ vec_items a.cases.waiting.vec
 
 -- from c to d the parser reads a tree, and r, in b, stands for it
 pub record BlockIn {X R : Type 0} (parser : Cursor → Read X) (decode : Slots → R → Option X) (a b : Arena) (c d : Cursor) (r : R) : Type 0 where
@@ -51,15 +51,6 @@ pub record BlockIn {X R : Type 0} (parser : Cursor → Read X) (decode : Slots �
 -- such a reading, or the parser's refusal
 abbrev pub ReadsBlock : {X R : Type 0} → (Cursor → Read X) → (Slots → R → Option X) → Arena → Arena → Reader → Reader → Result R FileFault → Type 0
 ReadsBlock parser decode a b s t r = MatchResult r (BlockIn parser decode a b (cursor s) (cursor t)) (λ e. parser (cursor s) ≡ Err e)
-
--- a terminal without values or blocks inside, which stands for the same in all tables
-pub record JumpIn (parser : Cursor → Read Term) (c d : Cursor) (r : ReactiveTerminal) : Type 0 where
-  pub tree : Term
-  pub parsed : parser c ≡ Ok (tree, d)
-  pub stands : (s : Slots) (val : ℕ → Option Val) (inside : Range → Option Block) → term_of s val inside r ≡ Some tree
-
-abbrev pub ReadsJump : (Cursor → Read Term) → Reader → Reader → Result ReactiveTerminal FileFault → Type 0
-ReadsJump parser s t r = MatchResult r (JumpIn parser (cursor s) (cursor t)) (λ e. parser (cursor s) ≡ Err e)
 
 -- one switch case: its test and its block
 abbrev pub case_read : ℕ → Cursor → Read (Option Place × OptBlock)
@@ -103,8 +94,8 @@ pub record StmtsIn (d n : ℕ) (a b : Arena) (c e : Cursor) : Type 0 where
   pub parsed : stmts_read (block d) n c ≡ Ok (tree, e)
   pub stands : body_of (stmt_slot d (slots b)) row ≡ Some tree
   pub step : Step a b c.used e.used
-  pub waiting : vec_items b.waiting ≡ vec_items a.waiting ++ row
-  pub casing : vec_items b.casing ≡ vec_items a.casing
+  pub waiting : vec_items b.entries.waiting.vec ≡ vec_items a.entries.waiting.vec ++ row
+  pub casing : vec_items b.cases.waiting.vec ≡ vec_items a.cases.waiting.vec
 
 -- so many switch cases, put aside one after another
 pub record CasesIn (d n : ℕ) (a b : Arena) (c e : Cursor) : Type 0 where
@@ -113,5 +104,5 @@ pub record CasesIn (d n : ℕ) (a b : Arena) (c e : Cursor) : Type 0 where
   pub parsed : cases_read (block d) n c ≡ Ok (tree, e)
   pub stands : cases_of (block_of d (slots b)) row ≡ Some tree
   pub step : Step a b c.used e.used
-  pub waiting : vec_items b.waiting ≡ vec_items a.waiting
-  pub casing : vec_items b.casing ≡ vec_items a.casing ++ row
+  pub waiting : vec_items b.entries.waiting.vec ≡ vec_items a.entries.waiting.vec
+  pub casing : vec_items b.cases.waiting.vec ≡ vec_items a.cases.waiting.vec ++ row

@@ -15,18 +15,9 @@ none_left (w ∷ ws) = false
 
 -- what stands in the tables was counted as it began
 pub record TablesRoom (e : Environment) (u : Used) : Type 0 where
-  pub identifiers : vec_len e.identifiers ≤ u.identifiers
-  pub scopes : vec_len e.scopes ≤ u.scopes
-  pub declarations : vec_len e.declarations ≤ u.declarations
-
-pub record IdentifiersIn (a b : Environment) (c d : Cursor) : Type 0 where
-  pub row : List Identifier
-  pub parsed : every identifier c ≡ Ok (row, d)
-  pub items : vec_items b.identifiers ≡ vec_items a.identifiers ++ row
-  pub room : TablesRoom b d.used
-  pub scopes : b.scopes ≡ a.scopes
-  pub declarations : b.declarations ≡ a.declarations
-  pub counters : b.counters ≡ a.counters
+  pub identifiers : vec_len e.identifiers.vec ≤ u.identifiers
+  pub scopes : vec_len e.scopes.vec ≤ u.scopes
+  pub declarations : vec_len e.declarations.vec ≤ u.declarations
 
 -- as a scope's list holds them
 abbrev pub declared : ℕ → List ReactiveScopeDeclaration → List Declared
@@ -36,37 +27,28 @@ declared n (d ∷ ds) = record { owner = n; declaration = d } ∷ declared n ds
 pub record DeclarationsIn (owner n : ℕ) (a b : Environment) (c d : Cursor) : Type 0 where
   pub row : List ReactiveScopeDeclaration
   pub parsed : times declaration n c ≡ Ok (row, d)
-  pub items : vec_items b.declarations ≡ vec_items a.declarations ++ declared owner row
+  pub items : vec_items b.declarations.vec ≡ vec_items a.declarations.vec ++ declared owner row
   pub room : TablesRoom b d.used
   pub later : c.used.scopes ≤ d.used.scopes
-  pub scopes : b.scopes ≡ a.scopes
-  pub identifiers : b.identifiers ≡ a.identifiers
+  pub scopes : b.scopes.vec ≡ a.scopes.vec
+  pub identifiers : b.identifiers.vec ≡ a.identifiers.vec
   pub counters : b.counters ≡ a.counters
 
 pub record ScopeIn (a b : Environment) (c d : Cursor) : Type 0 where
   pub info : ScopeInfo
   pub parsed : scope_info c ≡ Ok (info, d)
-  pub scopes : vec_items b.scopes ≡ vec_items a.scopes ++ record { early = info.early } ∷ []
-  pub declarations : vec_items b.declarations ≡ vec_items a.declarations ++ declared (vec_len a.scopes) info.declarations
+  pub scopes : vec_items b.scopes.vec ≡ vec_items a.scopes.vec ++ record { early = info.early } ∷ []
+  pub declarations : vec_items b.declarations.vec ≡ vec_items a.declarations.vec ++ declared (vec_len a.scopes.vec) info.declarations
   pub room : TablesRoom b d.used
-  pub identifiers : b.identifiers ≡ a.identifiers
+  pub identifiers : b.identifiers.vec ≡ a.identifiers.vec
   pub counters : b.counters ≡ a.counters
 
 -- no declaration is of a scope that is not there
 abbrev pub Owners : Environment → Type 0
-Owners e = (x : ℕ) → vec_len e.scopes ≤ x → owned x (vec_items e.declarations) ≡ []
+Owners e = (x : ℕ) → vec_len e.scopes.vec ≤ x → owned x (vec_items e.declarations.vec) ≡ []
 
 abbrev pub infos : Environment → List ScopeInfo
-infos e = scopes_from 0 (vec_items e.scopes) (vec_items e.declarations)
-
-pub record ScopesIn (a b : Environment) (c d : Cursor) : Type 0 where
-  pub row : List ScopeInfo
-  pub parsed : every scope_info c ≡ Ok (row, d)
-  pub stands : infos b ≡ infos a ++ row
-  pub owners : Owners b
-  pub room : TablesRoom b d.used
-  pub identifiers : b.identifiers ≡ a.identifiers
-  pub counters : b.counters ≡ a.counters
+infos e = scopes_from 0 (vec_items e.scopes.vec) (vec_items e.declarations.vec)
 
 -- ---- in the middle of a section: the items so far, and what the rest is still to be read by
 pub record Midway {X : Type 0} (p : Cursor → Read X) (row : List X) (c d : Cursor) : Type 0 where
@@ -77,10 +59,10 @@ pub record Midway {X : Type 0} (p : Cursor → Read X) (row : List X) (c d : Cur
 pub record IdentifiersMid (a b : Environment) (c d : Cursor) : Type 0 where
   pub row : List Identifier
   pub mid : Midway identifier row c d
-  pub items : vec_items b.identifiers ≡ vec_items a.identifiers ++ row
+  pub items : vec_items b.identifiers.vec ≡ vec_items a.identifiers.vec ++ row
   pub room : TablesRoom b d.used
-  pub scopes : b.scopes ≡ a.scopes
-  pub declarations : b.declarations ≡ a.declarations
+  pub scopes : b.scopes.vec ≡ a.scopes.vec
+  pub declarations : b.declarations.vec ≡ a.declarations.vec
   pub counters : b.counters ≡ a.counters
 
 pub record ScopesMid (a b : Environment) (c d : Cursor) : Type 0 where
@@ -89,5 +71,5 @@ pub record ScopesMid (a b : Environment) (c d : Cursor) : Type 0 where
   pub stands : infos b ≡ infos a ++ row
   pub owners : Owners b
   pub room : TablesRoom b d.used
-  pub identifiers : b.identifiers ≡ a.identifiers
+  pub identifiers : b.identifiers.vec ≡ a.identifiers.vec
   pub counters : b.counters ≡ a.counters

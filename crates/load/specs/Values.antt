@@ -19,17 +19,17 @@ use Rattle.load.specs.Reads.{cursor}
 
 -- what stands in the tables was counted as it began
 pub record ValueRoom (a : ValueArena) (u : Used) : Type 0 where
-  pub values : vec_len a.values ≤ u.values
-  pub places : vec_len a.places ≤ u.places
-  pub instructions : vec_len a.instructions + vec_len a.waiting ≤ u.statements
+  pub values : vec_len a.values.vec ≤ u.values
+  pub places : vec_len a.places.vec ≤ u.places
+  pub instructions : vec_len a.instructions.table.vec + vec_len a.instructions.waiting.vec ≤ u.statements
 
 -- a goes over to b, and what it gains was counted between u and v
 pub record ValueStep (a b : ValueArena) (u v : Used) : Type 0 where
   pub grow : ValuesGrow (value_slots a) (value_slots b)
   pub later : Within u v
-  pub values : vec_len b.values + u.values ≤ vec_len a.values + v.values
-  pub places : vec_len b.places + u.places ≤ vec_len a.places + v.places
-  pub instructions : vec_len b.instructions + vec_len b.waiting + u.statements ≤ vec_len a.instructions + vec_len a.waiting + v.statements
+  pub values : vec_len b.values.vec + u.values ≤ vec_len a.values.vec + v.values
+  pub places : vec_len b.places.vec + u.places ≤ vec_len a.places.vec + v.places
+  pub instructions : vec_len b.instructions.table.vec + vec_len b.instructions.waiting.vec + u.statements ≤ vec_len a.instructions.table.vec + vec_len a.instructions.waiting.vec + v.statements
 
 -- from c to d the parser reads a tree, and r, in b, stands for it
 pub record ValueIn {X R : Type 0} (parser : Cursor → Read X) (decode : ValueSlots → R → Option X) (a b : ValueArena) (c d : Cursor) (r : R) : Type 0 where
@@ -37,7 +37,7 @@ pub record ValueIn {X R : Type 0} (parser : Cursor → Read X) (decode : ValueSl
   pub parsed : parser c ≡ Ok (tree, d)
   pub stands : decode (value_slots b) r ≡ Some tree
   pub step : ValueStep a b c.used d.used
-  pub waiting : vec_items b.waiting ≡ vec_items a.waiting
+  pub waiting : vec_items b.instructions.waiting.vec ≡ vec_items a.instructions.waiting.vec
 
 -- such a reading, or the parser's refusal
 abbrev pub ReadsValue : {X R : Type 0} → (Cursor → Read X) → (ValueSlots → R → Option X) → ValueArena → ValueArena → Reader → Reader → Result R FileFault → Type 0
@@ -63,13 +63,13 @@ pub record InstrsIn (d n : ℕ) (a b : ValueArena) (c e : Cursor) : Type 0 where
   pub parsed : instrs_read (value d) n c ≡ Ok (tree, e)
   pub stands : instrs_of (value_of d (value_slots b)) row ≡ Some tree
   pub step : ValueStep a b c.used e.used
-  pub waiting : vec_items b.waiting ≡ vec_items a.waiting ++ row
+  pub waiting : vec_items b.instructions.waiting.vec ≡ vec_items a.instructions.waiting.vec ++ row
 
 -- so many places, at the end of the table
 pub record PlacesIn (n : ℕ) (a b : ValueArena) (c e : Cursor) : Type 0 where
   pub row : List Place
   pub parsed : times place n c ≡ Ok (row, e)
   pub long : length row ≡ n
-  pub added : vec_items b.places ≡ vec_items a.places ++ row
+  pub added : vec_items b.places.vec ≡ vec_items a.places.vec ++ row
   pub step : ValueStep a b c.used e.used
-  pub waiting : vec_items b.waiting ≡ vec_items a.waiting
+  pub waiting : vec_items b.instructions.waiting.vec ≡ vec_items a.instructions.waiting.vec

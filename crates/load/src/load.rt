@@ -10,7 +10,7 @@ ghost use Rattle.load.specs.Loads.{Loads, Refused, PartsIn};
 use crate::file::{Found, read_words};
 use format::fault::{FileFault, LoadFault};
 use hir::arena::Arena;
-use hir::environment::{Counters, Environment};
+use hir::environment::Environment;
 use hir::range::EMPTY;
 use hir::settled::Settled;
 use hir::tables::Tables;
@@ -23,18 +23,17 @@ fn clear_parts(environment: &mut Environment, arena: &mut Arena)
     ensures none { NoneIn environment.new }
     ensures slots { NoSlots arena.new }
 {
-    environment.counters = Counters {
-        blocks: 0,
-        types: 0,
-        ranges: 0,
-    };
-    environment.identifiers.clear();
-    environment.scopes.clear();
-    environment.declarations.clear();
+    environment.clear();
     arena.clear();
 }
 
-// Reads a file of whole words, from 48 to 65,536 bytes long.
+// How long a file may be, in bytes.
+const SHORTEST: usize = 48;
+
+const LONGEST: usize = 65536;
+
+// Reads a file of whole words, neither too short nor too long.
+#[tactic(auto, unfolding(format::specs::Parse::parse_file))]
 fn read_file(
     environment: &mut Environment,
     arena: &mut Arena,
@@ -44,13 +43,7 @@ fn read_file(
     requires slots { NoSlots arena.old }
     ensures { MatchResult result (λ f. FileIn environment.new arena.new (words bytes.now) f.root f.used × (parse_file bytes.now ≡ Ok (held environment.new arena.new f.root)) × (length bytes.now ≤ 65536)) (λ e. parse_file bytes.now ≡ Err e) }
 {
-    if bytes.len() % 4 != 0 {
-        return Err(FileFault::Length);
-    }
-    if bytes.len() < 48 {
-        return Err(FileFault::Length);
-    }
-    if bytes.len() > 65536 {
+    if bytes.len() % 4 != 0 || bytes.len() < SHORTEST || bytes.len() > LONGEST {
         return Err(FileFault::Length);
     }
     read_words(environment, arena, bytes)
@@ -77,6 +70,7 @@ pub fn load(tables: &mut Tables, bytes: &[u8]) -> Result<Settled, LoadFault>
     ensures draft { tables.new.draft ≡ false }
 {
     clear_parts(&mut tables.environment, &mut tables.arena);
+    // As new tables, but in place: new ones would take memory.
     tables.root = EMPTY;
     tables.used = UNUSED;
     tables.words = 12;

@@ -1,9 +1,7 @@
 // The values without other values inside: operations, with the rows of their places.
 ghost use Rattle.hir.specs.Decode.{op_of};
-ghost use Rattle.format.specs.Parse.{listed, times, place as place_item, op as op_item};
-ghost use Rattle.load.specs.Values.{ValueRoom, ReadsValue, places_in, PlacesIn};
-ghost use Rattle.std.specs.Prelude.{◌≡◌, Err, MatchResult};
-ghost use Rattle.load.specs.Reads.{cursor};
+ghost use Rattle.format.specs.Parse.{listed, place as place_item, op as op_item};
+ghost use Rattle.load.specs.Values.{ValueRoom, ReadsValue, places_in};
 
 use crate::reader::Reader;
 use format::fault::FileFault;
@@ -11,44 +9,37 @@ use hir::range::Range;
 use hir::value::InstructionValue;
 use hir::value_arena::ValueArena;
 
-fn add_places(arena: &mut ValueArena, reader: &mut Reader, count: u32) -> Result<(), FileFault>
-    requires { ValueRoom arena.old reader.old.used }
-    ensures { MatchResult result (λ _. PlacesIn count arena.old arena.new (cursor reader.old) (cursor reader.new)) (λ e. times place_item count (cursor reader.old) ≡ Err e) }
-{
-    for i in 0..count {
-        let place = reader.place()?;
-        arena.add_place(place);
+impl Reader<'_> {
+    fn read_places(&mut self, arena: &mut ValueArena) -> Result<Range, FileFault>
+        requires { ValueRoom arena.old self.old.used }
+        ensures { ReadsValue (listed place_item) places_in arena.old arena.new self.old self.new result }
+    {
+        let count = self.word()?;
+        let start = arena.places.vec.len() as u32;
+        // A loop of its own: each row goes to another table.
+        for _ in 0..count {
+            let place = self.item()?;
+            arena.places.add(place);
+        }
+        Ok(Range { start, count })
     }
-    Ok(())
-}
 
-fn read_places(arena: &mut ValueArena, reader: &mut Reader) -> Result<Range, FileFault>
-    requires { ValueRoom arena.old reader.old.used }
-    ensures { ReadsValue (listed place_item) places_in arena.old arena.new reader.old reader.new result }
-{
-    let count = reader.word()?;
-    let start = arena.places.len() as u32;
-    add_places(arena, reader, count)?;
-    Ok(Range { start, count })
-}
-
-pub fn read_operation(
-    arena: &mut ValueArena,
-    reader: &mut Reader,
-) -> Result<InstructionValue, FileFault>
-    requires { ValueRoom arena.old reader.old.used }
-    ensures { ReadsValue op_item op_of arena.old arena.new reader.old reader.new result }
-{
-    let kind = reader.below(42)?;
-    let payload = reader.payload(kind)?;
-    let written = read_places(arena, reader)?;
-    let operands = read_places(arena, reader)?;
-    let span = reader.word()?;
-    Ok(InstructionValue {
-        kind,
-        payload,
-        written,
-        operands,
-        span,
-    })
+    #[tactic(auto, unfolding(format::specs::Parse::op))]
+    pub fn read_operation(&mut self, arena: &mut ValueArena) -> Result<InstructionValue, FileFault>
+        requires { ValueRoom arena.old self.old.used }
+        ensures { ReadsValue op_item op_of arena.old arena.new self.old self.new result }
+    {
+        let kind = self.below(42)?;
+        let payload = self.payload(kind)?;
+        let written = self.read_places(arena)?;
+        let operands = self.read_places(arena)?;
+        let span = self.word()?;
+        Ok(InstructionValue {
+            kind,
+            payload,
+            written,
+            operands,
+            span,
+        })
+    }
 }

@@ -5,161 +5,158 @@ ghost use Rattle.format.specs.Parse.{value as value_parser, val_read, logical_re
 ghost use Rattle.load.specs.Reads.{cursor};
 ghost use Rattle.load.specs.Values.{ValueRoom, ReadsValue, val_in, instr_in, InstrsIn};
 
-use crate::operations::read_operation;
 use crate::reader::Reader;
 use format::fault::FileFault;
 use hir::value::{ReactiveInstruction, ReactiveValue};
 use hir::value_arena::ValueArena;
 
-// A value, in its slot.
-#[cycle(read_values)]
-pub fn read_value(arena: &mut ValueArena, reader: &mut Reader, depth: u32) -> Result<u32, FileFault>
-    requires { ValueRoom arena.old reader.old.used }
-    ensures { ReadsValue (value_parser depth) (value_of depth) arena.old arena.new reader.old reader.new result }
-{
-    if depth == 0 {
-        return Err(FileFault::Limit(reader.at));
+impl Reader<'_> {
+    // A value, in its slot.
+    #[cycle(read_values)]
+    pub fn read_value(&mut self, arena: &mut ValueArena, depth: u32) -> Result<u32, FileFault>
+        requires { ValueRoom arena.old self.old.used }
+        ensures { ReadsValue (value_parser depth) (value_of depth) arena.old arena.new self.old self.new result }
+    {
+        let depth = depth.checked_sub(1).ok_or(FileFault::Limit(self.at))?;
+        self.begin_value()?;
+        let value = self.read_case(arena, depth)?;
+        Ok(arena.values.add(value))
     }
-    reader.begin_value()?;
-    let value = read_case(arena, reader, depth - 1)?;
-    Ok(arena.add(value))
-}
 
-#[cycle(read_values)]
-fn read_case(
-    arena: &mut ValueArena,
-    reader: &mut Reader,
-    depth: u32,
-) -> Result<ReactiveValue, FileFault>
-    requires { ValueRoom arena.old reader.old.used }
-    ensures { ReadsValue (val_read (value_parser depth)) (val_in depth) arena.old arena.new reader.old reader.new result }
-{
-    let at = reader.at;
-    let case = reader.word()?;
-    match case {
-        0 => {
-            let operation = read_operation(arena, reader)?;
-            Ok(ReactiveValue::Instruction(operation))
+    #[cycle(read_values)]
+    fn read_case(&mut self, arena: &mut ValueArena, depth: u32) -> Result<ReactiveValue, FileFault>
+        requires { ValueRoom arena.old self.old.used }
+        ensures { ReadsValue (val_read (value_parser depth)) (val_in depth) arena.old arena.new self.old self.new result }
+    {
+        let at = self.at;
+        let case = self.word()?;
+        // A match of numbers: it is the format's table of cases.
+        match case {
+            0 => {
+                let operation = self.read_operation(arena)?;
+                Ok(ReactiveValue::Instruction(operation))
+            }
+            1 => self.read_logical(arena, depth),
+            2 => self.read_conditional(arena, depth),
+            3 => self.read_sequence(arena, depth),
+            4 => self.read_optional(arena, depth),
+            _ => Err(FileFault::Reading(at)),
         }
-        1 => read_logical(arena, reader, depth),
-        2 => read_conditional(arena, reader, depth),
-        3 => read_sequence(arena, reader, depth),
-        4 => read_optional(arena, reader, depth),
-        _ => Err(FileFault::Reading(at)),
     }
-}
 
-#[cycle(read_values)]
-fn read_logical(
-    arena: &mut ValueArena,
-    reader: &mut Reader,
-    depth: u32,
-) -> Result<ReactiveValue, FileFault>
-    requires { ValueRoom arena.old reader.old.used }
-    ensures { ReadsValue (logical_read (value_parser depth)) (val_in depth) arena.old arena.new reader.old reader.new result }
-{
-    let operator = reader.operator()?;
-    let left = read_value(arena, reader, depth)?;
-    let right = read_value(arena, reader, depth)?;
-    Ok(ReactiveValue::LogicalExpression {
-        operator,
-        left,
-        right,
-    })
-}
-
-#[cycle(read_values)]
-fn read_conditional(
-    arena: &mut ValueArena,
-    reader: &mut Reader,
-    depth: u32,
-) -> Result<ReactiveValue, FileFault>
-    requires { ValueRoom arena.old reader.old.used }
-    ensures { ReadsValue (conditional_read (value_parser depth)) (val_in depth) arena.old arena.new reader.old reader.new result }
-{
-    let test = read_value(arena, reader, depth)?;
-    let consequent = read_value(arena, reader, depth)?;
-    let alternate = read_value(arena, reader, depth)?;
-    Ok(ReactiveValue::ConditionalExpression {
-        test,
-        consequent,
-        alternate,
-    })
-}
-
-#[cycle(read_values)]
-fn read_sequence(
-    arena: &mut ValueArena,
-    reader: &mut Reader,
-    depth: u32,
-) -> Result<ReactiveValue, FileFault>
-    requires { ValueRoom arena.old reader.old.used }
-    ensures { ReadsValue (sequence_read (value_parser depth)) (val_in depth) arena.old arena.new reader.old reader.new result }
-{
-    let count = reader.word()?;
-    let base = arena.waiting.len();
-    read_instructions(arena, reader, depth, count)?;
-    let instructions = arena.settle(base);
-    let id = reader.order()?;
-    let value = read_value(arena, reader, depth)?;
-    Ok(ReactiveValue::SequenceExpression {
-        instructions,
-        id,
-        value,
-    })
-}
-
-#[cycle(read_values)]
-fn read_optional(
-    arena: &mut ValueArena,
-    reader: &mut Reader,
-    depth: u32,
-) -> Result<ReactiveValue, FileFault>
-    requires { ValueRoom arena.old reader.old.used }
-    ensures { ReadsValue (optional_read (value_parser depth)) (val_in depth) arena.old arena.new reader.old reader.new result }
-{
-    let value = read_value(arena, reader, depth)?;
-    let optional = reader.flag()?;
-    Ok(ReactiveValue::OptionalExpression { value, optional })
-}
-
-// A sequence's instructions, each a statement; they are put aside.
-#[cycle(read_values)]
-fn read_instructions(
-    arena: &mut ValueArena,
-    reader: &mut Reader,
-    depth: u32,
-    count: u32,
-) -> Result<(), FileFault>
-    requires { ValueRoom arena.old reader.old.used }
-    ensures { MatchResult result (λ _. InstrsIn depth count arena.old arena.new (cursor reader.old) (cursor reader.new)) (λ e. instrs_read (value_parser depth) count (cursor reader.old) ≡ Err e) }
-{
-    for i in 0..count {
-        reader.begin_statement()?;
-        let instruction = read_instruction(arena, reader, depth)?;
-        arena.wait(instruction);
+    #[cycle(read_values)]
+    fn read_logical(
+        &mut self,
+        arena: &mut ValueArena,
+        depth: u32,
+    ) -> Result<ReactiveValue, FileFault>
+        requires { ValueRoom arena.old self.old.used }
+        ensures { ReadsValue (logical_read (value_parser depth)) (val_in depth) arena.old arena.new self.old self.new result }
+    {
+        let operator = self.item()?;
+        let left = self.read_value(arena, depth)?;
+        let right = self.read_value(arena, depth)?;
+        Ok(ReactiveValue::LogicalExpression {
+            operator,
+            left,
+            right,
+        })
     }
-    Ok(())
-}
 
-// An instruction, whose value is as deep as `depth` allows.
-#[cycle(read_values)]
-pub fn read_instruction(
-    arena: &mut ValueArena,
-    reader: &mut Reader,
-    depth: u32,
-) -> Result<ReactiveInstruction, FileFault>
-    requires { ValueRoom arena.old reader.old.used }
-    ensures { ReadsValue (instr_read (value_parser depth)) (instr_in depth) arena.old arena.new reader.old reader.new result }
-{
-    let id = reader.order()?;
-    let lvalue = reader.optional_place()?;
-    let value = read_value(arena, reader, depth)?;
-    let span = reader.word()?;
-    Ok(ReactiveInstruction {
-        id,
-        lvalue,
-        value,
-        span,
-    })
+    #[cycle(read_values)]
+    fn read_conditional(
+        &mut self,
+        arena: &mut ValueArena,
+        depth: u32,
+    ) -> Result<ReactiveValue, FileFault>
+        requires { ValueRoom arena.old self.old.used }
+        ensures { ReadsValue (conditional_read (value_parser depth)) (val_in depth) arena.old arena.new self.old self.new result }
+    {
+        let test = self.read_value(arena, depth)?;
+        let consequent = self.read_value(arena, depth)?;
+        let alternate = self.read_value(arena, depth)?;
+        Ok(ReactiveValue::ConditionalExpression {
+            test,
+            consequent,
+            alternate,
+        })
+    }
+
+    #[cycle(read_values)]
+    fn read_sequence(
+        &mut self,
+        arena: &mut ValueArena,
+        depth: u32,
+    ) -> Result<ReactiveValue, FileFault>
+        requires { ValueRoom arena.old self.old.used }
+        ensures { ReadsValue (sequence_read (value_parser depth)) (val_in depth) arena.old arena.new self.old self.new result }
+    {
+        let count = self.word()?;
+        let base = arena.instructions.waiting.vec.len();
+        self.read_instructions(arena, depth, count)?;
+        let instructions = arena.instructions.settle(base);
+        let id = self.order()?;
+        let value = self.read_value(arena, depth)?;
+        Ok(ReactiveValue::SequenceExpression {
+            instructions,
+            id,
+            value,
+        })
+    }
+
+    #[cycle(read_values)]
+    fn read_optional(
+        &mut self,
+        arena: &mut ValueArena,
+        depth: u32,
+    ) -> Result<ReactiveValue, FileFault>
+        requires { ValueRoom arena.old self.old.used }
+        ensures { ReadsValue (optional_read (value_parser depth)) (val_in depth) arena.old arena.new self.old self.new result }
+    {
+        let value = self.read_value(arena, depth)?;
+        let optional = self.flag()?;
+        Ok(ReactiveValue::OptionalExpression { value, optional })
+    }
+
+    // A sequence's instructions, each a statement; they are put aside.
+    #[cycle(read_values)]
+    fn read_instructions(
+        &mut self,
+        arena: &mut ValueArena,
+        depth: u32,
+        count: u32,
+    ) -> Result<(), FileFault>
+        requires { ValueRoom arena.old self.old.used }
+        ensures { MatchResult result (λ _. InstrsIn depth count arena.old arena.new (cursor self.old) (cursor self.new)) (λ e. instrs_read (value_parser depth) count (cursor self.old) ≡ Err e) }
+    {
+        // A loop of its own: the calls in it lead back here.
+        for _ in 0..count {
+            self.begin_statement()?;
+            let instruction = self.read_instruction(arena, depth)?;
+            arena.instructions.wait(instruction);
+        }
+        Ok(())
+    }
+
+    // An instruction, whose value is as deep as `depth` allows.
+    #[cycle(read_values)]
+    pub fn read_instruction(
+        &mut self,
+        arena: &mut ValueArena,
+        depth: u32,
+    ) -> Result<ReactiveInstruction, FileFault>
+        requires { ValueRoom arena.old self.old.used }
+        ensures { ReadsValue (instr_read (value_parser depth)) (instr_in depth) arena.old arena.new self.old self.new result }
+    {
+        let id = self.order()?;
+        let lvalue = self.item()?;
+        let value = self.read_value(arena, depth)?;
+        let span = self.word()?;
+        Ok(ReactiveInstruction {
+            id,
+            lvalue,
+            value,
+            span,
+        })
+    }
 }

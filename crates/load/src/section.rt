@@ -15,15 +15,12 @@ fn word_at(bytes: &[u8], at: usize) -> u32
     requires { at * 4 + 4 ≤ length bytes.now }
     ensures { result ≡ slice_index (words bytes.now) at }
 {
-    u32::from_le_bytes([
-        bytes[at * 4],
-        bytes[at * 4 + 1],
-        bytes[at * 4 + 2],
-        bytes[at * 4 + 3],
-    ])
+    let (quads, _) = bytes.as_chunks::<4>();
+    u32::from_le_bytes(quads[at])
 }
 
 // The end of the section whose pair is at a word, where it begins at `from` as it should; the last one ends with the file.
+// `last` is told, as by the format's definition: the two ways differ in one comparison. `total` is told too: to count it here would ask for a bound of the bytes.
 pub fn read_pair(bytes: &[u8], at: u32, last: bool, from: u32, total: u32) -> Result<u32, FileFault>
     requires total { total ≡ length (words bytes.now) }
     requires head { at ≤ 6 }
@@ -36,16 +33,16 @@ pub fn read_pair(bytes: &[u8], at: u32, last: bool, from: u32, total: u32) -> Re
         return Err(FileFault::Pairs(at));
     }
     let length = word_at(bytes, at as usize + 1);
-    if last {
-        if length == total - from {
-            return Ok(total);
-        }
-        return Err(FileFault::Pairs(at + 1));
+    let fits = if last {
+        length == total - from
+    } else {
+        length <= total - from
+    };
+    if fits {
+        Ok(from + length)
+    } else {
+        Err(FileFault::Pairs(at + 1))
     }
-    if length <= total - from {
-        return Ok(from + length);
-    }
-    Err(FileFault::Pairs(at + 1))
 }
 
 // A reader of the words from `from` to `to`.
@@ -63,12 +60,15 @@ pub fn section<'a>(bytes: &'a [u8], from: u32, to: u32, used: Used) -> Reader<'a
     }
 }
 
-// A section is read to its exact end.
-pub fn finish(reader: &Reader) -> Result<(), FileFault>
-    ensures { Finishes (cursor reader.now) result }
-{
-    if reader.ended() {
-        return Ok(());
+impl Reader<'_> {
+    // A section is read to its exact end.
+    pub fn finish(&self) -> Result<Used, FileFault>
+        ensures { Finishes (cursor self.now) result }
+    {
+        if self.ended() {
+            Ok(self.used)
+        } else {
+            Err(FileFault::Reading(self.at))
+        }
     }
-    Err(FileFault::Reading(reader.at))
 }

@@ -1,76 +1,67 @@
-use Rattle.std.proofs.Common.{vec_items, ap, ◌∙◌, arith}
-use Rattle.std.proofs.lemmas.Result.{err_from_is_err_and, MatchResult-weaker}
-use Rattle.format.specs.Words.{words}
+use Rattle.std.proofs.Common.{sym, ap, subst, vec_items, ◌∙◌, arith}
+use Rattle.std.proofs.lemmas.Result.{MatchResult-weaker}
+use Rattle.hir.specs.declared.used.Used.{Used}
+use Rattle.hir.specs.Sizes.{none}
+use Rattle.load.specs.Environments.{TablesRoom}
+use Rattle.format.specs.Parse.{Cursor, block, counters, every, identifier, scope_info}
 use Rattle.load.proofs.FileSteps
-use Rattle.load.proofs.Lies.{inside, near}
+use Rattle.load.proofs.Stops.{handed_on}
+use Rattle.load.proofs.TableSteps.{none_room, no_owners}
 use Rattle.load.proofs.file.read_words.Goals as goal
 
-pub counters_section-requires : goal.counters_section-requires
-counters_section-requires c =
-    let l = FileSteps.ends_lie (words c.args.bytes.now) c.in_ok-ends.ends.counters c.in_ok-ends.ends.identifiers c.in_ok-ends.ends.scopes c.in_ok-ends.ends.body c.in_ok-ends.ensures in
+pub section-counters-requires : goal.section-counters-requires
+section-counters-requires c =
+    let l = FileSteps.ends_lie c.in_ok-ends.ensures in FileSteps.placed c.args.bytes.now 8 c.in_ok-ends.ends.counters none l.first (omega arith) c.requires.near FileSteps.none_within
+
+pub section-identifiers-requires : goal.section-identifiers-requires
+section-identifiers-requires c =
+    let l = FileSteps.ends_lie c.in_ok-ends.ensures in
+    FileSteps.placed c.args.bytes.now c.in_ok-ends.ends.counters c.in_ok-ends.ends.identifiers c.in_ok-first.first l.second (omega arith) c.requires.near c.in_ok-first.ensures.within
+
+pub read_identifiers-requires : goal.read_identifiers-requires
+read_identifiers-requires c = none_room c.section-identifiers.result.used (FileSteps.counters_none c.requires.none c.in_ok-first.ensures)
+
+pub section-scopes-requires : goal.section-scopes-requires
+section-scopes-requires c =
+    let l = FileSteps.ends_lie c.in_ok-ends.ensures in
+    FileSteps.placed c.args.bytes.now c.in_ok-ends.ends.identifiers c.in_ok-ends.ends.scopes c.in_ok-second.second l.third (omega arith) c.requires.near c.in_ok-second.ensures.within
+
+pub read_scopes-requires : goal.read_scopes-requires
+read_scopes-requires c =
+    let second = c.in_ok-second.ensures in
     record {
-      order = l.first;
-      inside = inside c.in_ok-ends.ends.counters c.args.bytes.now (omega arith);
-      near = near c.in_ok-ends.ends.counters c.args.bytes.now (omega arith) c.requires.near;
+      room = subst (λ (u : Used). TablesRoom c.read_identifiers.new.environment u) (sym (ap (λ (k : Cursor). k.used) c.section-scopes.ensures)) second.room;
+      owners = no_owners c.read_identifiers.new.environment (ap vec_items second.declarations ∙ (FileSteps.counters_none c.requires.none c.in_ok-first.ensures).declarations);
     }
 
-pub identifiers_section-requires : goal.identifiers_section-requires
-identifiers_section-requires c =
-    let l = FileSteps.ends_lie (words c.args.bytes.now) c.in_ok-ends.ends.counters c.in_ok-ends.ends.identifiers c.in_ok-ends.ends.scopes c.in_ok-ends.ends.body c.in_ok-ends.ensures in
-    record {
-      order = l.second;
-      inside = inside c.in_ok-ends.ends.identifiers c.args.bytes.now (omega arith);
-      near = near c.in_ok-ends.ends.identifiers c.args.bytes.now (omega arith) c.requires.near;
-      limited = c.in_ok-first.ensures.within;
-      empty =
-          record {
-            identifiers = ap vec_items c.in_ok-first.ensures.identifiers ∙ c.requires.none.identifiers;
-            scopes = ap vec_items c.in_ok-first.ensures.scopes ∙ c.requires.none.scopes;
-            declarations = ap vec_items c.in_ok-first.ensures.declarations ∙ c.requires.none.declarations;
-          };
-    }
-
-pub scopes_section-requires : goal.scopes_section-requires
-scopes_section-requires c =
-    let l = FileSteps.ends_lie (words c.args.bytes.now) c.in_ok-ends.ends.counters c.in_ok-ends.ends.identifiers c.in_ok-ends.ends.scopes c.in_ok-ends.ends.body c.in_ok-ends.ensures in
-    record {
-      order = l.third;
-      inside = inside c.in_ok-ends.ends.scopes c.args.bytes.now (omega arith);
-      near = near c.in_ok-ends.ends.scopes c.args.bytes.now (omega arith) c.requires.near;
-      limited = c.in_ok-second.ensures.within;
-      identifiers = c.in_ok-second.ensures.room;
-      scopes = ap vec_items c.in_ok-second.ensures.scopes ∙ ap vec_items c.in_ok-first.ensures.scopes ∙ c.requires.none.scopes;
-      declarations = ap vec_items c.in_ok-second.ensures.declarations ∙ ap vec_items c.in_ok-first.ensures.declarations ∙ c.requires.none.declarations;
-    }
-
-pub body_section-requires : goal.body_section-requires
-body_section-requires c =
-    let l = FileSteps.ends_lie (words c.args.bytes.now) c.in_ok-ends.ends.counters c.in_ok-ends.ends.identifiers c.in_ok-ends.ends.scopes c.in_ok-ends.ends.body c.in_ok-ends.ensures in
-    record {
-      order = l.fourth;
-      inside = inside c.in_ok-ends.ends.body c.args.bytes.now (omega arith);
-      near = near c.in_ok-ends.ends.body c.args.bytes.now (omega arith) c.requires.near;
-      limited = c.in_ok-third.ensures.within;
-      empty = c.requires.slots;
-    }
+pub section-requires : goal.section-requires
+section-requires c =
+    let l = FileSteps.ends_lie c.in_ok-ends.ensures in
+    FileSteps.placed c.args.bytes.now c.in_ok-ends.ends.scopes c.in_ok-ends.ends.body c.in_ok-third.third l.fourth (omega arith) c.requires.near c.in_ok-third.ensures.within
 
 pub returns-in_err-first : goal.returns-in_err-first
 returns-in_err-first c =
-    let p = err_from_is_err_and c.from_residual-in_err-first.result c.from_residual-in_err-first.ensures.1 in
-    rw (p.1, p.2) (FileSteps.counters_stop (words c.args.bytes.now) c.in_ok-ends.ends.counters c.in_ok-ends.ends.identifiers c.in_ok-ends.ends.scopes c.in_ok-ends.ends.body c.in_ok-ends.ensures c.in_err-first.ensures)
+    rw (handed_on c.from_residual-in_err-first.result c.from_residual-in_err-first.ensures)
+    (FileSteps.counters_stop c.in_ok-ends.ensures (FileSteps.whole_at counters c.section-counters.ensures c.in_err-first.ensures))
 
 pub returns-in_err-second : goal.returns-in_err-second
 returns-in_err-second c =
-    let p = err_from_is_err_and c.from_residual-in_err-second.result c.from_residual-in_err-second.ensures.1 in
-    rw (p.1, p.2) (FileSteps.identifiers_stop (words c.args.bytes.now) c.in_ok-ends.ends.counters c.in_ok-ends.ends.identifiers c.in_ok-ends.ends.scopes c.in_ok-ends.ends.body c.in_ok-ends.ensures c.in_ok-first.ensures.parsed c.in_err-second.ensures)
+    let first = FileSteps.counters_at c.section-counters.ensures c.in_ok-first.ensures in
+    rw (handed_on c.from_residual-in_err-second.result c.from_residual-in_err-second.ensures)
+    (FileSteps.identifiers_stop c.in_ok-ends.ensures first.parsed (FileSteps.whole_at (every identifier) c.section-identifiers.ensures (FileSteps.whole_stop (every identifier) _ c.in_err-second.ensures)))
 
 pub returns-in_err-third : goal.returns-in_err-third
 returns-in_err-third c =
-    let p = err_from_is_err_and c.from_residual-in_err-third.result c.from_residual-in_err-third.ensures.1 in
-    rw (p.1, p.2) (FileSteps.scopes_stop (words c.args.bytes.now) c.in_ok-ends.ends.counters c.in_ok-ends.ends.identifiers c.in_ok-ends.ends.scopes c.in_ok-ends.ends.body c.in_ok-ends.ensures c.in_ok-first.ensures.parsed c.in_ok-second.ensures.parsed c.in_err-third.ensures)
+    let first = FileSteps.counters_at c.section-counters.ensures c.in_ok-first.ensures in
+    let second = FileSteps.identifiers_at c.section-identifiers.ensures c.in_ok-second.ensures in
+    rw (handed_on c.from_residual-in_err-third.result c.from_residual-in_err-third.ensures)
+    (FileSteps.scopes_stop c.in_ok-ends.ensures first.parsed second.parsed (FileSteps.whole_at (every scope_info) c.section-scopes.ensures (FileSteps.whole_stop (every scope_info) _ c.in_err-third.ensures)))
 
 pub returns : goal.returns
 returns c =
-    MatchResult-weaker c.body_section.result c.body_section.ensures
-    (λ _ m. FileSteps.file_in (words c.args.bytes.now) c.in_ok-ends.ends.counters c.in_ok-ends.ends.identifiers c.in_ok-ends.ends.scopes c.in_ok-ends.ends.body c.in_ok-ends.ensures c.in_ok-first.ensures c.in_ok-second.ensures c.in_ok-third.ensures m)
-    (λ _ m. FileSteps.body_stop (words c.args.bytes.now) c.in_ok-ends.ends.counters c.in_ok-ends.ends.identifiers c.in_ok-ends.ends.scopes c.in_ok-ends.ends.body c.in_ok-ends.ensures c.in_ok-first.ensures.parsed c.in_ok-second.ensures.parsed c.in_ok-third.ensures.parsed m)
+    let first = FileSteps.counters_at c.section-counters.ensures c.in_ok-first.ensures in
+    let second = FileSteps.identifiers_at c.section-identifiers.ensures c.in_ok-second.ensures in
+    let third = FileSteps.scopes_at c.section-scopes.ensures c.in_ok-third.ensures in
+    MatchResult-weaker c.read_body.result c.read_body.ensures
+    (λ _ m. FileSteps.file_in c.in_ok-ends.ensures c.requires.none first second third (FileSteps.body_at c.section.ensures m))
+    (λ _ m. FileSteps.body_stop c.in_ok-ends.ensures first.parsed second.parsed third.parsed (FileSteps.whole_at (block 64) c.section.ensures m))

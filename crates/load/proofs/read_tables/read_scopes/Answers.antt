@@ -1,13 +1,14 @@
 use Rattle.std.proofs.Common.{sym, ◌∙◌, arith}
-use Rattle.std.proofs.lemmas.Result.{err_from_is_err_and}
 use Rattle.format.specs.Parse.{scope_info}
 use Rattle.load.specs.Reads.{cursor}
 use Rattle.load.proofs.Shorter.{scope_shorter}
-use Rattle.load.proofs.TableSteps.{mid_stop, scopes_first, scopes_next}
+use Rattle.load.proofs.Stops.{handed_on}
+use Rattle.load.proofs.TableSteps.{mid_stop, scopes_first, scopes_next, scopes_read}
 use Rattle.load.proofs.read_tables.read_scopes.Goals as goal
 
 pub items-init : goal.items-init
-items-init c = scopes_first (cursor c.args.reader.now) c.requires.room c.requires.owners
+items-init c =
+    scopes_first (cursor c.args.reader.now) c.requires.room c.requires.owners
 
 pub items-smaller : goal.items-smaller
 items-smaller c = omega (arith, scope_shorter (cursor c.items.reader) _ c.in_ok-read_scope.ensures.parsed)
@@ -17,5 +18,8 @@ items-preserved c = scopes_next c.items.invariant (sym c.ended.ensures ∙ c.ite
 
 pub returns-in_err-read_scope : goal.returns-in_err-read_scope
 returns-in_err-read_scope c =
-    let p = err_from_is_err_and c.from_residual.result c.from_residual.ensures.1 in
-    rw (p.1, p.2) (mid_stop scope_info c.items.invariant.mid (sym c.ended.ensures ∙ c.items-test.true) c.in_err-read_scope.ensures)
+    rw (handed_on c.from_residual.result c.from_residual.ensures)
+    (mid_stop scope_info c.items.invariant.mid (sym c.ended.ensures ∙ c.items-test.true) c.in_err-read_scope.ensures)
+
+pub returns : goal.returns
+returns c = scopes_read c.items.invariant (sym c.ended.ensures ∙ c.items-test.false) c.items.reader.limited

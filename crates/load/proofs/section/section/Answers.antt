@@ -4,7 +4,7 @@ use Rattle.load.proofs.section.section.Goals as goal
 
 pub invariant_of-result : goal.invariant_of-result
 invariant_of-result c =
-    let w = c.requires.limited in record { near = part_near c.args.from c.args.to c.args.bytes.now c.requires.order c.requires.inside c.requires.near; tree = (w.statements, w.values, w.places, w.cases); tables = (w.identifiers, w.scopes, w.declarations) }
+    record { near = part_near c.args.from c.args.to c.args.bytes.now c.requires.order c.requires.inside c.requires.near; limited = c.requires.limited }
 
 pub returns : goal.returns
 returns c = ap (λ l. record { at = c.args.from; rest = l; used = c.args.used }) (words_part c.args.from c.args.to c.args.bytes.now c.requires.order c.requires.inside)

@@ -8,7 +8,7 @@ pub invariant_of-self : goal.invariant_of-self
 invariant_of-self c =
     let first = words_first c.args.self.now.rest.now (omega (arith, ltb-false)) in
     let rest = take_rest c.args.self.now.rest.now 4 in
-    record { near = omega (arith, ap length first, ap (λ l. length (words l)) rest, c.args.self.now.near); tree = c.args.self.now.tree; tables = c.args.self.now.tables }
+    record { near = omega (arith, ap length first, ap (λ l. length (words l)) rest, c.args.self.now.near); limited = c.args.self.now.limited }
 
 pub returns-in-len4-up : goal.returns-in-len4-up
 returns-in-len4-up c =
