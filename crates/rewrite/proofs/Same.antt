@@ -1,5 +1,5 @@
 -- A loaded file is written as the same bytes. Assumes nothing.
-use Rattle.std.proofs.Common.{◌≡◌, ℕ, suc, ◌*◌, ◌<◌, List, [], ◌∷◌, ◌++◌, length, get_or, drop, sym, ap, ◌∙◌, subst, arith, w8, Fits}
+use Rattle.std.proofs.Common.{◌≡◌, ℕ, suc, ◌*◌, ◌<◌, List, [], ◌∷◌, ◌++◌, length, get_or, drop, sym, ap, ◌∙◌, subst, arith, w8, Fits, Ok, Err, Result, MatchResult}
 use Rattle.std.specs.List.{AllByRecursion}
 use Rattle.hir.specs.declared.settled.Settled.{Settled}
 use Rattle.hir.specs.declared.tables.Tables.{Tables}
@@ -31,3 +31,9 @@ pub kept_short : (bs o p : List ℕ) (t : Tables) (s : Settled) (e : Refused) �
 kept_short bs o p t s e h l m =
     let less : length o < length bs = omega (arith, m.short, same_length bs t h l) in
     record { why = subst (λ (f : CallFault). Why bs o t f) (sym m.fault) (less, l); same = m.same }
+
+-- what the write says, with the fault alone in a refusal
+pub back_or_kept : (bs o p : List ℕ) (t : Tables) (s : Settled) (w : Result ℕ Refused) (r : Result ℕ CallFault) → AllByRecursion (λ b. b < 256) bs → Loaded bs t →
+    MatchResult w (Saved (function_of t) o p) (TooSmall (function_of t) s o p) → MatchResult w (λ n. r ≡ Ok n) (λ e. r ≡ Err e.fault) → MatchResult r (Back bs o p t) (Kept bs o p t)
+back_or_kept bs o p t s (Ok n) r h l m e = rw e (written_back bs o p t n h l m)
+back_or_kept bs o p t s (Err e) r h l m f = rw f (kept_short bs o p t s e h l m)

@@ -15,8 +15,5 @@ pub fn rewrite(tables: &mut Tables, bytes: &[u8], out: &mut [u8]) -> Result<usiz
     ensures draft { tables.new.draft ≡ false }
 {
     let settled = load(tables, bytes)?;
-    match write(settled, tables, out) {
-        Ok(length) => Ok(length),
-        Err(refused) => Err(refused.fault),
-    }
+    write(settled, tables, out).map_err(|refused| refused.fault)
 }

@@ -1,9 +1,7 @@
 pub mod Lay
 pub mod Rooms
-pub mod Items
-pub mod Nodes
-pub mod Opened
+pub mod Left
 pub mod Rows
+pub mod Opened
 pub mod Owned
-pub mod Scopes
 pub mod Sections

@@ -1,89 +1,77 @@
--- What stands in a part of the tree that is about to be written. Assumes nothing.
-use Rattle.std.proofs.Common.{◌≡◌, ℕ, ◌+◌, ◌≤◌, ◌≢◌, List, get_or, Some, vec_items, vec_len, Option, sym, ap, ◌∙◌, arith}
-use Rattle.hir.specs.declared.arena.Arena.{Arena}
+-- What stands in a slot and in a row, once it has been read. Assumes nothing.
+use Rattle.std.proofs.Common.{◌≡◌, ℕ, ◌-◌, ◌<◌, ◌≢◌, ◌∷◌, ◌++◌, List, length, get_or, take, drop, Some, None, Option, sym, refl, ap, ◌∙◌, subst, ap₂}
+use Rattle.std.specs.Prelude.{IsSome}
 use Rattle.hir.specs.declared.place.Place.{Place}
 use Rattle.hir.specs.declared.range.Range.{Range}
-use Rattle.hir.specs.declared.statement.PrunedReactiveScopeBlock.{PrunedReactiveScopeBlock}
-use Rattle.hir.specs.declared.statement.ReactiveScopeBlock.{ReactiveScopeBlock}
 use Rattle.hir.specs.declared.statement.ReactiveStatement.{ReactiveStatement}
-use Rattle.hir.specs.declared.statement.ReactiveStatement.TheVariants.{Instruction, Terminal, Scope, PrunedScope}
 use Rattle.hir.specs.declared.terminal.ReactiveSwitchCase.{ReactiveSwitchCase}
-use Rattle.hir.specs.declared.terminal.ReactiveTerminal.TheVariants.{Switch, DoWhile, While, For, ForOf, ForIn, If, Label, Try}
-use Rattle.hir.specs.declared.terminal.ReactiveTerminalStatement.{ReactiveTerminalStatement}
+use Rattle.hir.specs.declared.terminal.ReactiveTerminal.{ReactiveTerminal}
+use Rattle.hir.specs.declared.terminal.ReactiveTerminal.TheVariants.{Switch}
 use Rattle.hir.specs.declared.value.ReactiveInstruction.{ReactiveInstruction}
-use Rattle.hir.specs.Decode.{top_value}
-use Rattle.hir.specs.Encode.{stmt_words, term_words, cases_words, opt_block_words, body_words, block_words}
-use Rattle.hir.specs.Held.{value_slots, slots}
-use Rattle.hir.specs.Tree.{Val}
-use Rattle.hir.proofs.Parts.{SwitchParts, switch_parts, DoWhileParts, do_while_parts, WhileParts, while_parts, ForParts, for_parts, ForOfParts, for_of_parts, ForInParts, for_in_parts, IfParts, if_parts, LabelParts, label_parts, TryParts, try_parts, SlotParts, slot_parts, InstructionParts, instruction_parts, TerminalParts, terminal_parts, ScopeParts, scope_parts, PrunedParts, pruned_parts, SomeBlockParts, some_block_parts, CasesParts, cases_parts, BodyParts, body_parts, BlockParts, block_parts}
-use Rattle.write.specs.Puts.{Writable}
-use Rattle.write.specs.Stands.{block_in, alternate_in, cases_in, terminal_in, statement_in, slot_in, body_in}
+use Rattle.hir.specs.declared.value.ReactiveValue.{ReactiveValue}
+use Rattle.hir.specs.declared.value.ReactiveValue.TheVariants.{SequenceExpression}
+use Rattle.hir.specs.Decode.{ValueSlots, Slots, instrs_of, val_of, value_of, top_value, cases_of, term_of, stmt_of, slot_of, body_of, block_of}
+use Rattle.hir.specs.Encode.{val_words, instrs_words, word, place_words, cases_words, term_words, body_words, block_words}
+use Rattle.hir.specs.Options.{bind, nth}
+use Rattle.hir.specs.Tree.{Val, Block}
+use Rattle.hir.proofs.Bound.{bound, nth_within}
+use Rattle.hir.proofs.Parts.{value_parts, sequence_parts, switch_parts, block_parts}
+use Rattle.write.specs.Puts.{words_in}
 
-abbrev values_in : Arena → ℕ → Option Val
-values_in a = top_value (value_slots a.inner)
+some_of : {X : Type 0} (x : Option X) → IsSome x → (y : X) × (x ≡ Some y)
+some_of None h = absurd (cc)
+some_of (Some y) h = (y, refl)
 
-module _ (d : ℕ) (a : Arena) where
-  -- ---- terminals
-  pub switch_open : (t : Place) (r : Range) (i : ℕ) {o : List ℕ} {at : ℕ} (w : Writable term_words (terminal_in d a (Switch t r i)) o at) → SwitchParts (slots a) (values_in a) (block_in d a) t r i w.what
-  switch_open t r i w = switch_parts (slots a) (values_in a) (block_in d a) t r i w.what w.stands
+pub value_node : (d : ℕ) (a : ValueSlots) (k : ℕ) (n : ReactiveValue) → IsSome (value_of d a k) → n ≡ get_or a.values k n → val_of a (value_of (d - 1) a) n ≡ value_of d a k
+value_node d a k n h e = let s = some_of (value_of d a k) h in (value_parts d a k s.0 s.1).slot n e ∙ sym s.1
 
-  pub do_while_open : (r : Range) (v i : ℕ) {o : List ℕ} {at : ℕ} (w : Writable term_words (terminal_in d a (DoWhile r v i)) o at) → DoWhileParts (slots a) (values_in a) (block_in d a) r v i w.what
-  do_while_open r v i w = do_while_parts (slots a) (values_in a) (block_in d a) r v i w.what w.stands
+-- a sequence tells the count of its instructions
+pub sequence_is : (a : ValueSlots) (val : ℕ → Option Val) {x : ReactiveValue} {r : Range} {i v : ℕ} {is : List ReactiveInstruction} → is ≡ take r.count (drop r.start a.instructions) → x ≡ SequenceExpression r i v → IsSome (val_of a val x)
+    → 3 ∷ r.count ∷ (words_in instrs_words (instrs_of val is) ++ i ∷ words_in val_words (val v)) ≡ words_in val_words (val_of a val x)
+sequence_is a val {x} {r} {i} {v} {is} read e h =
+    let s = some_of (val_of a val (SequenceExpression r i v)) (subst (λ y. IsSome (val_of a val y)) e h) in
+    let p = sequence_parts a val r i v s.0 s.1 in
+    ap₂ (λ l w. 3 ∷ r.count ∷ (l ++ i ∷ w)) (ap (words_in instrs_words) (ap (instrs_of val) read ∙ p.instructions_are)) (ap (words_in val_words) p.value_is)
+    ∙ ap (λ n. 3 ∷ n ∷ (instrs_words p.instructions ++ i ∷ val_words p.value)) (sym p.count_is)
+    ∙ ap val_words p.is
+    ∙ sym (ap (words_in val_words) (ap (val_of a val) e ∙ s.1))
 
-  pub while_open : (v : ℕ) (r : Range) (i : ℕ) {o : List ℕ} {at : ℕ} (w : Writable term_words (terminal_in d a (While v r i)) o at) → WhileParts (slots a) (values_in a) (block_in d a) v r i w.what
-  while_open v r i w = while_parts (slots a) (values_in a) (block_in d a) v r i w.what w.stands
+-- so does a switch of its cases
+pub switch_is : (a : Slots) (val : ℕ → Option Val) (block : Range → Option Block) {x : ReactiveTerminal} {t : Place} {r : Range} {i : ℕ} {cs : List ReactiveSwitchCase}
+    → cs ≡ take r.count (drop r.start a.cases) → x ≡ Switch t r i → IsSome (term_of a val block x)
+    → 4 ∷ (place_words t ++ r.count ∷ (words_in cases_words (cases_of block cs) ++ word i)) ≡ words_in term_words (term_of a val block x)
+switch_is a val block {x} {t} {r} {i} {cs} read e h =
+    let s = some_of (term_of a val block (Switch t r i)) (subst (λ y. IsSome (term_of a val block y)) e h) in
+    let p = switch_parts a val block t r i s.0 s.1 in
+    ap (λ l. 4 ∷ (place_words t ++ r.count ∷ (l ++ word i))) (ap (words_in cases_words) (ap (cases_of block) read ∙ p.cases_are))
+    ∙ ap (λ n. 4 ∷ (place_words t ++ n ∷ (cases_words p.cases ++ word i))) (sym p.count_is)
+    ∙ ap term_words p.is
+    ∙ sym (ap (words_in term_words) (ap (term_of a val block) e ∙ s.1))
 
-  pub for_open : (n v : ℕ) (u : Option ℕ) (r : Range) (i : ℕ) {o : List ℕ} {at : ℕ} (w : Writable term_words (terminal_in d a (For n v u r i)) o at) → ForParts (slots a) (values_in a) (block_in d a) n v u r i w.what
-  for_open n v u r i w = for_parts (slots a) (values_in a) (block_in d a) n v u r i w.what w.stands
+-- ---- a statement in its slot
+pub slot_within : (a : Slots) (block : Range → Option Block) (k : ℕ) → IsSome (slot_of a block k) → k < length a.statements
+slot_within a block k h =
+    let s = some_of (slot_of a block k) h in
+    let n = bound (nth a.statements k) _ s.0 s.1 in
+    nth_within a.statements k n.0 n.1
 
-  pub for_of_open : (n v : ℕ) (r : Range) (i s : ℕ) {o : List ℕ} {at : ℕ} (w : Writable term_words (terminal_in d a (ForOf n v r i s)) o at) → ForOfParts (slots a) (values_in a) (block_in d a) n v r i s w.what
-  for_of_open n v r i s w = for_of_parts (slots a) (values_in a) (block_in d a) n v r i s w.what w.stands
+pub slot_node : (a : Slots) (block : Range → Option Block) (k : ℕ) {n : ReactiveStatement} → nth a.statements k ≡ Some n → stmt_of a (top_value a.inner) block n ≡ slot_of a block k
+slot_node a block k e = ap (λ o. bind o (stmt_of a (top_value a.inner) block)) (sym e)
 
-  pub for_in_open : (n : ℕ) (r : Range) (i s : ℕ) {o : List ℕ} {at : ℕ} (w : Writable term_words (terminal_in d a (ForIn n r i s)) o at) → ForInParts (slots a) (values_in a) (block_in d a) n r i s w.what
-  for_in_open n r i s w = for_in_parts (slots a) (values_in a) (block_in d a) n r i s w.what w.stands
+-- ---- the statements of a block, one less deep
+pub block_deep : (d : ℕ) (a : Slots) (r : Range) → IsSome (block_of d a r) → d ≢ 0
+block_deep d a r h = let s = some_of (block_of d a r) h in (block_parts d a r s.0 s.1).deep
 
-  pub if_open : (t : Place) (r : Range) (c : Option Range) (i : ℕ) {o : List ℕ} {at : ℕ} (w : Writable term_words (terminal_in d a (If t r c i)) o at) → IfParts (slots a) (values_in a) (block_in d a) t r c i w.what
-  if_open t r c i w = if_parts (slots a) (values_in a) (block_in d a) t r c i w.what w.stands
+pub record BlockRow (d : ℕ) (a : Slots) (r : Range) (es : List ℕ) : Type 0 where
+  pub stands : IsSome (body_of (slot_of a (block_of (d - 1) a)) es)
+  pub is : r.count ∷ words_in body_words (body_of (slot_of a (block_of (d - 1) a)) es) ≡ words_in block_words (block_of d a r)
 
-  pub label_open : (r : Range) (i : ℕ) {o : List ℕ} {at : ℕ} (w : Writable term_words (terminal_in d a (Label r i)) o at) → LabelParts (slots a) (values_in a) (block_in d a) r i w.what
-  label_open r i w = label_parts (slots a) (values_in a) (block_in d a) r i w.what w.stands
-
-  pub try_open : (r : Range) (b : Option Place) (h : Range) (i : ℕ) {o : List ℕ} {at : ℕ} (w : Writable term_words (terminal_in d a (Try r b h i)) o at) → TryParts (slots a) (values_in a) (block_in d a) r b h i w.what
-  try_open r b h i w = try_parts (slots a) (values_in a) (block_in d a) r b h i w.what w.stands
-
-  -- ---- statements, once their slot has been read
-  pub statement_at : (k : ℕ) {o : List ℕ} {at : ℕ} (w : Writable stmt_words (slot_in d a k) o at) → SlotParts (slots a) (values_in a) (block_in d a) k w.what
-  statement_at k w = slot_parts (slots a) (values_in a) (block_in d a) k w.what w.stands
-
-  pub statement_node : (k : ℕ) {n m : ReactiveStatement} {o : List ℕ} {at : ℕ} → n ≡ get_or (vec_items a.statements) k n → n ≡ m → (w : Writable stmt_words (slot_in d a k) o at) → statement_in d a m ≡ Some w.what
-  statement_node k {n} h e w = sym (ap (statement_in d a) e) ∙ (statement_at k w).slot n h
-
-  pub instruction_open : (k : ℕ) (i : ReactiveInstruction) {n : ReactiveStatement} {o : List ℕ} {at : ℕ} → n ≡ get_or (vec_items a.statements) k n → n ≡ Instruction i
-      → (w : Writable stmt_words (slot_in d a k) o at) → InstructionParts (slots a) (values_in a) (block_in d a) i w.what
-  instruction_open k i h e w = instruction_parts (slots a) (values_in a) (block_in d a) i w.what (statement_node k h e w)
-
-  pub scope_open : (k : ℕ) (s : ReactiveScopeBlock) {n : ReactiveStatement} {o : List ℕ} {at : ℕ} → n ≡ get_or (vec_items a.statements) k n → n ≡ Scope s
-      → (w : Writable stmt_words (slot_in d a k) o at) → ScopeParts (slots a) (values_in a) (block_in d a) s w.what
-  scope_open k s h e w = scope_parts (slots a) (values_in a) (block_in d a) s w.what (statement_node k h e w)
-
-  pub pruned_open : (k : ℕ) (s : PrunedReactiveScopeBlock) {n : ReactiveStatement} {o : List ℕ} {at : ℕ} → n ≡ get_or (vec_items a.statements) k n → n ≡ PrunedScope s
-      → (w : Writable stmt_words (slot_in d a k) o at) → PrunedParts (slots a) (values_in a) (block_in d a) s w.what
-  pruned_open k s h e w = pruned_parts (slots a) (values_in a) (block_in d a) s w.what (statement_node k h e w)
-
-  pub terminal_open : (t : ReactiveTerminalStatement) {o : List ℕ} {at : ℕ} (w : Writable stmt_words (statement_in d a (Terminal t)) o at) → TerminalParts (slots a) (values_in a) (block_in d a) t w.what
-  terminal_open t w = terminal_parts (slots a) (values_in a) (block_in d a) t w.what w.stands
-
-  -- ---- blocks and rows
-  pub some_block_open : {x : Option Range} {r : Range} {o : List ℕ} {at : ℕ} → x ≡ Some r → (w : Writable opt_block_words (alternate_in d a x) o at) → SomeBlockParts (slots a) (values_in a) (block_in d a) r w.what
-  some_block_open {r = r} e w = some_block_parts (slots a) (values_in a) (block_in d a) r w.what (sym (ap (alternate_in d a) e) ∙ w.stands)
-
-  pub cases_open : (start n : ℕ) (c : ReactiveSwitchCase) {o : List ℕ} {at : ℕ} → start + n ≤ vec_len a.cases → n ≢ 0 → c ≡ get_or (vec_items a.cases) start c
-      → (w : Writable cases_words (cases_in d a start n) o at) → CasesParts (slots a) (values_in a) (block_in d a) start n c w.what
-  cases_open start n c h ne e w = cases_parts (slots a) (values_in a) (block_in d a) start n c w.what (omega (arith, h, a.cases.ok.0)) ne e w.stands
-
-  pub body_open : (start n k : ℕ) {o : List ℕ} {at : ℕ} → start + n ≤ vec_len a.entries → n ≢ 0 → k ≡ get_or (vec_items a.entries) start k
-      → (w : Writable body_words (body_in d a start n) o at) → BodyParts (slot_in d a) (vec_items a.entries) start n k w.what
-  body_open start n k h ne e w = body_parts (slot_in d a) (vec_items a.entries) start n k w.what (omega (arith, h, a.entries.ok.0)) ne e w.stands
-
-  pub block_open : (r : Range) {o : List ℕ} {at : ℕ} (w : Writable block_words (block_in d a r) o at) → BlockParts d (slots a) r w.what
-  block_open r w = block_parts d (slots a) r w.what w.stands
+pub block_row : (d : ℕ) (a : Slots) (r : Range) {es : List ℕ} → es ≡ take r.count (drop r.start a.entries) → IsSome (block_of d a r) → BlockRow d a r es
+block_row d a r {es} read h =
+    let s = some_of (block_of d a r) h in
+    let p = block_parts d a r s.0 s.1 in
+    let b = ap (body_of (slot_of a (block_of (d - 1) a))) read ∙ p.body in
+    record {
+      stands = subst (λ o. IsSome o) (sym b) refl;
+      is = ap (λ l. r.count ∷ words_in body_words l) b ∙ ap (λ n. n ∷ body_words s.0) (sym p.count_is) ∙ sym (ap (words_in block_words) s.1);
+    }

@@ -1,13 +1,12 @@
 // The whole file of the function that tables hold.
-ghost use Rattle.std.specs.Prelude.{◌≡◌, false, MatchResult};
+ghost use Rattle.std.specs.Prelude.{◌≡◌, ◌*◌, ◌≤◌, false, length, MatchResult};
 ghost use Rattle.hir.specs.Encode.{encode};
 ghost use Rattle.hir.specs.Tables.{function_of};
 ghost use Rattle.write.specs.File.{Saved, TooSmall};
-ghost use Rattle.write.specs.Puts.{Room, Wrote};
+ghost use Rattle.write.specs.Puts.{over};
 
-use crate::block::put_body;
-use crate::environment::{put_counters, put_identifiers, put_scopes};
-use crate::pairs::put_pairs;
+use crate::encode::Encode;
+use crate::writer::Writer;
 use format::fault::CallFault;
 use hir::settled::Settled;
 use hir::tables::Tables;
@@ -20,22 +19,21 @@ pub struct Refused {
 }
 
 // The pairs tell the sections' lengths, so the sections are written first.
-fn put_file(tables: &Tables, out: &mut [u8]) -> usize
-    requires { Room out.old 0 (encode (function_of tables.now)) }
-    ensures { Wrote out.old out.new 0 (encode (function_of tables.now)) result }
+fn put_file(tables: &Tables, out: &mut [u8])
+    requires { 4 * length (encode (function_of tables.now)) ≤ length out.old }
+    ensures { out.new ≡ over out.old 0 (encode (function_of tables.now)) }
 {
     let environment = &tables.environment;
-    let identifiers = put_counters(environment.counters, out, 8);
-    let scopes = put_identifiers(environment.identifiers.as_slice(), out, identifiers);
-    let body = put_scopes(
-        environment.scopes.as_slice(),
-        environment.declarations.as_slice(),
-        out,
-        scopes,
-    );
-    let end = put_body(&tables.arena, tables.root, out, body);
-    put_pairs(identifiers, scopes, body, tables.words, out);
-    end
+    let mut writer = Writer { out, at: 8 };
+    environment.counters.put(&mut writer);
+    let counters = writer.at;
+    writer.items(environment.identifiers.vec.as_slice());
+    let identifiers = writer.at;
+    writer.scopes(environment.scopes.vec.as_slice(), &environment.declarations);
+    let scopes = writer.at;
+    writer.body(&tables.arena, tables.root);
+    writer.at = 0;
+    writer.pairs(counters, identifiers, scopes, tables.words);
 }
 
 // Writes the file into the front of `out`, and answers its length in bytes.
@@ -43,11 +41,13 @@ pub fn write(settled: Settled, tables: &Tables, out: &mut [u8]) -> Result<usize,
     requires { tables.now.draft ≡ false }
     ensures { MatchResult result (Saved (function_of tables.now) out.old out.new) (TooSmall (function_of tables.now) settled out.old out.new) }
 {
-    if out.len() < 4 * tables.words as usize {
+    let length = 4 * tables.words as usize;
+    if out.len() < length {
         return Err(Refused {
             settled,
             fault: CallFault::BufferTooSmall,
         });
     }
-    Ok(4 * put_file(tables, out))
+    put_file(tables, out);
+    Ok(length)
 }

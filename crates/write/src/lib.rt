@@ -2,11 +2,11 @@
 #![tactic(auto)]
 
 mod block;
+mod encode;
 mod environment;
 pub mod file;
-mod number;
 mod pairs;
 mod place;
 mod terminal;
 mod value;
-mod word;
+mod writer;

@@ -1,32 +1,27 @@
 // The four pairs at the file's front: where each section begins, and its length.
-ghost use Rattle.std.specs.Prelude.{◌+◌, ◌-◌, ◌*◌, ◌^◌, ◌<◌, ◌≤◌, [], ◌∷◌, length};
-ghost use Rattle.write.specs.Puts.{Wrote};
+ghost use Rattle.std.specs.Prelude.{◌-◌, ◌^◌, ◌<◌, ◌≤◌, [], ◌∷◌};
+ghost use Rattle.write.specs.Puts.{Room, Wrote};
 
-use crate::word::put_word;
+use crate::writer::Writer;
 
-fn put_pair(start: usize, end: usize, out: &mut [u8], at: usize) -> usize
-    requires order { (start ≤ end) × (end < 2 ^ 32) }
-    requires room { 4 * (at + 2) ≤ length out.old }
-    ensures { Wrote out.old out.new at (start ∷ (end - start) ∷ []) result }
-{
-    let length = put_word(out, at, start as u32);
-    put_word(out, length, (end - start) as u32)
-}
+impl Writer<'_> {
+    fn pair(&mut self, start: usize, end: usize)
+        requires order { (start ≤ end) × (end < 2 ^ 32) }
+        requires room { Room self.old (start ∷ (end - start) ∷ []) }
+        ensures { Wrote self.old self.new (start ∷ (end - start) ∷ []) }
+    {
+        self.words(&[start as u32, (end - start) as u32]);
+    }
 
-// The sections end at the given words, the last with the file; the first begins at word 8.
-pub fn put_pairs(
-    counters: usize,
-    identifiers: usize,
-    scopes: usize,
-    words: u32,
-    out: &mut [u8],
-) -> usize
-    requires order { (8 ≤ counters) × ((counters ≤ identifiers) × ((identifiers ≤ scopes) × (scopes ≤ words))) }
-    requires room { 32 ≤ length out.old }
-    ensures { Wrote out.old out.new 0 (8 ∷ (counters - 8) ∷ counters ∷ (identifiers - counters) ∷ identifiers ∷ (scopes - identifiers) ∷ scopes ∷ (words - scopes) ∷ []) result }
-{
-    let second = put_pair(8, counters, out, 0);
-    let third = put_pair(counters, identifiers, out, second);
-    let fourth = put_pair(identifiers, scopes, out, third);
-    put_pair(scopes, words as usize, out, fourth)
+    // The sections end at the given words, the last with the file; the first begins at word 8.
+    pub fn pairs(&mut self, counters: usize, identifiers: usize, scopes: usize, words: u32)
+        requires order { (8 ≤ counters) × ((counters ≤ identifiers) × ((identifiers ≤ scopes) × (scopes ≤ words))) }
+        requires room { Room self.old (8 ∷ (counters - 8) ∷ counters ∷ (identifiers - counters) ∷ identifiers ∷ (scopes - identifiers) ∷ scopes ∷ (words - scopes) ∷ []) }
+        ensures { Wrote self.old self.new (8 ∷ (counters - 8) ∷ counters ∷ (identifiers - counters) ∷ identifiers ∷ (scopes - identifiers) ∷ scopes ∷ (words - scopes) ∷ []) }
+    {
+        self.pair(8, counters);
+        self.pair(counters, identifiers);
+        self.pair(identifiers, scopes);
+        self.pair(scopes, words as usize);
+    }
 }
