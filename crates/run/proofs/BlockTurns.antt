@@ -1,6 +1,8 @@
 -- The turns of a block and of its statements but terminals.
 -- A statement's step is paid as it is taken from its block.
-use Rattle.std.proofs.Common.{◌≡◌, ℕ, suc, ◌+◌, ◌-◌, ◌<◌, ◌≤◌, Bool, true, false, eqb, ltb, List, [], ◌∷◌, ◌++◌, length, Some, None, Option, sym, refl, ap, ◌∙◌, subst, arith}
+use Rattle.std.proofs.Common.{◌≡◌, ℕ, suc, ◌+◌, ◌-◌, ◌<◌, ◌≤◌, Bool, true, false, eqb, ltb, List, [], ◌∷◌, ◌++◌, length, Some, None, Option, sym, refl, ap, ◌∙◌, subst, add-zero, add-one, is_some, arith}
+use Rattle.hir.specs.Numbers.{flag_number}
+use mir.Val.{bool_byte}
 use Rattle.std.proofs.lemmas.Bool.{lt-ltb, le-ltb}
 use Rattle.hir.specs.declared.range.Range.{Range}
 use Rattle.hir.specs.declared.value.ReactiveInstruction.{ReactiveInstruction}
@@ -17,13 +19,22 @@ use Rattle.run.specs.declared.frame.Exit.{Exit}
 use Rattle.run.specs.declared.frame.Exit.TheVariants as E
 use Rattle.run.specs.declared.frame.Frame.{Frame}
 use Rattle.run.specs.declared.frame.Frame.TheVariants as F
+use Rattle.run.specs.Frames.{behind}
 use Rattle.run.specs.Tasks.{Task, block, begun, value, assigns, leaves, around, act, resume, runs, begins}
 use Rattle.run.specs.Turn.{Leads, Next, state_of}
 use Rattle.run.proofs.Decoded.{block_in, block_deep, block_end, block_first_lem}
-use Rattle.run.proofs.Rows.{behind}
 use Rattle.run.proofs.Stack.{later, closes}
 use Rattle.run.proofs.StatementParts.{stmt_in, instruction_parts, scope_parts, pruned_parts}
 use Rattle.run.proofs.Turning.{top, stay, goes, paying, snoc_length, next}
+
+-- a bool as a number
+pub byte_is : (b : Bool) → bool_byte b ≡ flag_number b
+byte_is true = refl
+byte_is false = refl
+
+pub byte_low : (b : Bool) → bool_byte b ≤ 1
+byte_low true = omega arith
+byte_low false = omega arith
 
 module _ {S : Type 0} (H : Meaning S) (B : ℕ) (rec : ℕ → Option ℕ) (a : Slots) (W : ℕ) (w : Result S) where
   ran : (x : Stmt) (s : State S) → ltb s.steps B ≡ true → run_s H (within H B) rec (suc B) x s ≡ begins H B rec x (stepped s)
@@ -130,7 +141,7 @@ module _ {S : Type 0} (H : Meaning S) (B : ℕ) (rec : ℕ → Option ℕ) (a : 
         refl
         (omega arith)
 
-    pub on_scope_plain : (k d : ℕ) (b : ReactiveScopeBlock) → nth a.statements k ≡ Some (K.Scope b) → rec b.scope ≡ None
+    on_scope_plain : (k d : ℕ) (b : ReactiveScopeBlock) → nth a.statements k ≡ Some (K.Scope b) → rec b.scope ≡ None
         → Leads H B rec a W w (fs ++ F.Statement k d ∷ []) x h σ given steps entries recorded
         → Next H B rec a W w fs (F.Statement k d) steps ((fs ++ F.Leaves None ∷ []) ++ F.Block b.instructions d ∷ []) x h σ given steps entries recorded
     unfolding bind enter
@@ -146,7 +157,7 @@ module _ {S : Type 0} (H : Meaning S) (B : ℕ) (rec : ℕ → Option ℕ) (a : 
         (rw er)
         (omega arith)
 
-    pub on_scope_recorded : (k d i : ℕ) (b : ReactiveScopeBlock) (entries' : ℕ) → entries' ≡ suc entries → nth a.statements k ≡ Some (K.Scope b) → rec b.scope ≡ Some i
+    on_scope_recorded : (k d i : ℕ) (b : ReactiveScopeBlock) (entries' : ℕ) → entries' ≡ suc entries → nth a.statements k ≡ Some (K.Scope b) → rec b.scope ≡ Some i
         → Leads H B rec a W w (fs ++ F.Statement k d ∷ []) x h σ given steps entries recorded
         → Next H B rec a W w fs (F.Statement k d) steps ((fs ++ F.Leaves (Some i) ∷ []) ++ F.Block b.instructions d ∷ []) x h σ given steps entries' recorded
     unfolding bind enter
@@ -161,6 +172,13 @@ module _ {S : Type 0} (H : Meaning S) (B : ℕ) (rec : ℕ → Option ℕ) (a : 
         (omega arith)
         (rw (er, ee))
         (omega arith)
+
+    -- by what its record names
+    pub on_scope : (k d : ℕ) (o : Option ℕ) (b : ReactiveScopeBlock) (entries' : ℕ) → entries' ≡ entries + flag_number (is_some o) → nth a.statements k ≡ Some (K.Scope b) → rec b.scope ≡ o
+        → Leads H B rec a W w (fs ++ F.Statement k d ∷ []) x h σ given steps entries recorded
+        → Next H B rec a W w fs (F.Statement k d) steps ((fs ++ F.Leaves o ∷ []) ++ F.Block b.instructions d ∷ []) x h σ given steps entries' recorded
+    on_scope k d (Some i) b entries' ee at er ld = on_scope_recorded k d i b entries' (ee ∙ add-one entries) at er ld
+    on_scope k d None b entries' ee at er ld = let e = ee ∙ add-zero entries in rw e (on_scope_plain k d b at er ld)
 
     -- the step of a begun statement leaves room for an entry
     pub entry_room : (k d : ℕ) → Leads H B rec a W w (fs ++ F.Statement k d ∷ []) x h σ given steps entries recorded → entries < B
@@ -203,18 +221,12 @@ module _ {S : Type 0} (H : Meaning S) (B : ℕ) (rec : ℕ → Option ℕ) (a : 
     -- by what the frame names
     pub leaves_none : (r : Option ℕ) → r ≡ None → Leads H B rec a W w (fs ++ F.Leaves r ∷ []) x h σ given steps entries recorded
         → Next H B rec a W w fs (F.Leaves r) steps fs x h σ given steps entries recorded
-    leaves_none r e ld =
-        let P : Option ℕ → Type 0 = λ z. Leads H B rec a W w (fs ++ F.Leaves z ∷ []) x h σ given steps entries recorded → Next H B rec a W w fs (F.Leaves z) steps fs x h σ given steps entries recorded in
-        subst P (sym e) on_leaves_none ld
+    leaves_none r e ld = let l' = rw e at ld in rw e (on_leaves_none l')
 
     pub leaves_empty : (r : Option ℕ) (i : ℕ) → r ≡ Some i → eqb (look σ i) 1 ≡ true → Leads H B rec a W w (fs ++ F.Leaves r ∷ []) x h σ given steps entries recorded
         → Next H B rec a W w fs (F.Leaves r) steps fs x h σ given steps entries recorded
-    leaves_empty r i e q ld =
-        let P : Option ℕ → Type 0 = λ z. Leads H B rec a W w (fs ++ F.Leaves z ∷ []) x h σ given steps entries recorded → Next H B rec a W w fs (F.Leaves z) steps fs x h σ given steps entries recorded in
-        subst P (sym e) (on_leaves_empty i q) ld
+    leaves_empty r i e q ld = let l' = rw e at ld in rw e (on_leaves_empty i q l')
 
     pub leaves_return : (r : Option ℕ) (i v : ℕ) → r ≡ Some i → v ≡ look σ i → eqb v 1 ≡ false → Leads H B rec a W w (fs ++ F.Leaves r ∷ []) x h σ given steps entries recorded
         → Next H B rec a W w fs (F.Leaves r) steps fs (E.Returned v) h σ given steps entries true
-    leaves_return r i v e ev q ld =
-        let P : Option ℕ → Type 0 = λ z. Leads H B rec a W w (fs ++ F.Leaves z ∷ []) x h σ given steps entries recorded → Next H B rec a W w fs (F.Leaves z) steps fs (E.Returned v) h σ given steps entries true in
-        subst P (sym e) (on_leaves_return i v ev q) ld
+    leaves_return r i v e ev q ld = let l' = rw e at ld in rw e (on_leaves_return i v ev q l')

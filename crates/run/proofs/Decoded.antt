@@ -11,8 +11,8 @@ use Rattle.hir.specs.declared.terminal.ReactiveSwitchCase.{ReactiveSwitchCase}
 use Rattle.hir.specs.Options.{bind, nth, part}
 use Rattle.hir.specs.Decode.{ValueSlots, Slots, op_of, instr_of, instrs_of, val_of, value_of, opt_block_of, cases_of, slot_of, body_of, block_of}
 use Rattle.hir.specs.Tree.{Op, Val, operation, logical, conditional, sequence, optional, Instr, instr, Instrs, inil, icons, Stmt, Cases, knil, kcons, OptBlock, Block, nil, cons}
-use Rattle.run.specs.Frames.{value_at, instrs_at, block_at, stmt_at, cases_at}
-use Rattle.run.proofs.Rows.{none_some, bound, some_is, nth_in, behind, row_in, row_nil, row_cons, row_behind}
+use Rattle.run.specs.Frames.{value_at, instrs_at, block_at, stmt_at, cases_at, behind}
+use Rattle.run.proofs.Rows.{none_some, bound, some_is, nth_in, row_in, row_nil, row_cons, row_behind}
 
 -- ---- values
 module _ (a : ValueSlots) (d k : ℕ) (v : Val) (e : value_at d a k ≡ Some v) where

@@ -8,10 +8,10 @@ pub mod StatementParts
 pub mod BlockTurns
 pub mod LoopTurns
 pub mod EndTurns
-pub mod Jumps
+pub mod Around
 pub mod TerminalTurns
 pub mod SwitchTurns
 pub mod Records
-pub mod Between
 pub mod Operating
+pub mod Dues
 pub mod Whole

@@ -1,11 +1,11 @@
 -- The turns of a loop: its start, the beginning of a round, what its test leads to.
 -- A round costs a step; the rounds left stay above the steps left, so a loop is never short of rounds.
-use Rattle.std.proofs.Common.{◌≡◌, ℕ, zero, suc, ◌+◌, ◌-◌, ◌<◌, ◌≤◌, Bool, true, false, eqb, ltb, List, [], ◌∷◌, ◌++◌, Some, None, Option, sym, refl, ap, ◌∙◌, subst, arith}
+use Rattle.std.proofs.Common.{◌≡◌, ℕ, zero, suc, ◌+◌, ◌-◌, ◌<◌, ◌≤◌, Bool, true, false, eqb, ltb, List, [], ◌∷◌, ◌++◌, Some, None, Option, sym, refl, ap, ◌∙◌, append-nil, arith, Ok}
+use Rattle.host.specs.Asked.{thrown}
 use Rattle.std.proofs.lemmas.Bool.{lt-ltb, le-ltb}
 use Rattle.hir.specs.declared.range.Range.{Range}
 use Rattle.hir.specs.Decode.{Slots, top_value, opt_value_of}
 use Rattle.hir.specs.Tree.{Val, OptVal, no_val, some_val, Block}
-use Rattle.host.specs.declared.Reply.TheVariants.{Value, Thrown}
 use Rattle.semantics.specs.Machine.{Meaning, State, normal, broke, continued, returned, threw, Result, done, spent, stepped, bind, map_out, test, branch, ask, on_reply, tick, iter}
 use Rattle.semantics.specs.Targets.{Around, aim_b}
 use Rattle.semantics.specs.Exec.{within, end_round}
@@ -15,7 +15,8 @@ use Rattle.run.specs.declared.frame.Loop.{Loop as Repeated}
 use Rattle.run.specs.declared.frame.Loop.TheVariants.{TestFirst, BlockFirst, Updating}
 use Rattle.run.specs.declared.frame.Frame.{Frame}
 use Rattle.run.specs.declared.frame.Frame.TheVariants as F
-use Rattle.run.specs.Frames.{value_at, block_at, loop_at}
+use Rattle.run.specs.Holds.{updates}
+use Rattle.run.specs.Frames.{test_of_loop, value_at, block_at, loop_at}
 use Rattle.run.specs.Tasks.{Loop, test_first, block_first, updating, block, value, ends_loop, ends_round, starts, rounds, tests, around, resume, runs, values, after_yes, round_of, w_loop, w_tests, weights}
 use Rattle.run.specs.Turn.{Leads, Next, state_of, test_of}
 use Rattle.run.proofs.Rows.{bound, some_is}
@@ -255,7 +256,7 @@ module _ {S : Type 0} (H : Meaning S) (B : ℕ) (rec : ℕ → Option ℕ) (a : 
 
     -- ---- what its test leads to
     module _ (m : Option ℕ) (d v : ℕ) (h' : S) (eh : h' ≡ H.next h (test_of 0 given)) where
-      pub on_tests_threw : (l : Repeated) → Thrown v ≡ H.answer h (test_of 0 given)
+      pub on_tests_threw : (l : Repeated) → thrown v ≡ H.answer h (test_of 0 given)
           → Leads H B rec a W w (fs ++ F.Tests l m d ∷ []) x h σ given steps entries recorded
           → Next H B rec a W w fs (F.Tests l m d) steps fs (E.Threw v) h' σ given steps entries recorded
       unfolding bind ask on_reply
@@ -264,7 +265,7 @@ module _ {S : Type 0} (H : Meaning S) (B : ℕ) (rec : ℕ → Option ℕ) (a : 
           let q = o.means in
           goes H B rec a W w o (tests q.0 m) q.1 fs o.kont (E.Threw v) h' σ given entries o.stacked (positive q.0 (weights o.kont)) (rw (eh, ← ea)) (omega arith)
 
-      pub on_tests_no : (l : Repeated) → Value v ≡ H.answer h (test_of 0 given) → eqb v 0 ≡ true
+      pub on_tests_no : (l : Repeated) → Ok v ≡ H.answer h (test_of 0 given) → eqb v 0 ≡ true
           → Leads H B rec a W w (fs ++ F.Tests l m d ∷ []) x h σ given steps entries recorded
           → Next H B rec a W w fs (F.Tests l m d) steps fs (E.Broke None) h' σ v steps entries recorded
       unfolding bind ask on_reply branch
@@ -273,7 +274,7 @@ module _ {S : Type 0} (H : Meaning S) (B : ℕ) (rec : ℕ → Option ℕ) (a : 
           let q = o.means in
           goes H B rec a W w o (tests q.0 m) q.1 fs o.kont (E.Broke None) h' σ v entries o.stacked (positive q.0 (weights o.kont)) (rw (eh, ← ea, e0)) (omega arith)
 
-      module _ (ea : Value v ≡ H.answer h (test_of 0 given)) (e0 : eqb v 0 ≡ false) where
+      module _ (ea : Ok v ≡ H.answer h (test_of 0 given)) (e0 : eqb v 0 ≡ false) where
         pub on_tests_test_first : (k : ℕ) (r : Range)
             → Leads H B rec a W w (fs ++ F.Tests (TestFirst k r) m d ∷ []) x h σ given steps entries recorded
             → Next H B rec a W w fs (F.Tests (TestFirst k r) m d) steps ((fs ++ F.EndsRound m ∷ []) ++ F.Block r d ∷ []) x h' σ v steps entries recorded
@@ -342,62 +343,41 @@ module _ {S : Type 0} (H : Meaning S) (B : ℕ) (rec : ℕ → Option ℕ) (a : 
     -- ---- by what the frame names
     module _ (m : Option ℕ) (d : ℕ) where
       module _ (b : steps < B) where
-        pub rounds_test_first : (l : Repeated) (v : ℕ) (r : Range) → l ≡ TestFirst v r
+        pub rounds_test : (l : Repeated) → ((r : Range) (v : ℕ) → l ≡ BlockFirst r v → ⊥)
             → Leads H B rec a W w (fs ++ F.Rounds l m d ∷ []) x h σ given steps entries recorded
-            → Next H B rec a W w fs (F.Rounds l m d) steps (((fs ++ F.Rounds l m d ∷ []) ++ F.Tests l m d ∷ []) ++ F.Value v 64 ∷ []) x h σ given (steps + 1) entries recorded
-        rounds_test_first l v r e ld =
-            let P : Repeated → Type 0 = λ l. Leads H B rec a W w (fs ++ F.Rounds l m d ∷ []) x h σ given steps entries recorded → Next H B rec a W w fs (F.Rounds l m d) steps (((fs ++ F.Rounds l m d ∷ []) ++ F.Tests l m d ∷ []) ++ F.Value v 64 ∷ []) x h σ given (steps + 1) entries recorded in
-            subst P (sym e) (on_rounds_test_first m d b v r) ld
-
-        pub rounds_updating : (l : Repeated) (v : ℕ) (u : Option ℕ) (r : Range) → l ≡ Updating v u r
-            → Leads H B rec a W w (fs ++ F.Rounds l m d ∷ []) x h σ given steps entries recorded
-            → Next H B rec a W w fs (F.Rounds l m d) steps (((fs ++ F.Rounds l m d ∷ []) ++ F.Tests l m d ∷ []) ++ F.Value v 64 ∷ []) x h σ given (steps + 1) entries recorded
-        rounds_updating l v u r e ld =
-            let P : Repeated → Type 0 = λ l. Leads H B rec a W w (fs ++ F.Rounds l m d ∷ []) x h σ given steps entries recorded → Next H B rec a W w fs (F.Rounds l m d) steps (((fs ++ F.Rounds l m d ∷ []) ++ F.Tests l m d ∷ []) ++ F.Value v 64 ∷ []) x h σ given (steps + 1) entries recorded in
-            subst P (sym e) (on_rounds_updating m d b v u r) ld
+            → Next H B rec a W w fs (F.Rounds l m d) steps (((fs ++ F.Rounds l m d ∷ []) ++ F.Tests l m d ∷ []) ++ F.Value (test_of_loop l) 64 ∷ []) x h σ given (steps + 1) entries recorded
+        rounds_test (TestFirst v r) e ld = on_rounds_test_first m d b v r ld
+        rounds_test (Updating v u r) e ld = on_rounds_updating m d b v u r ld
+        rounds_test (BlockFirst r v) e ld = absurd (e r v refl)
 
         pub rounds_block_first : (l : Repeated) (r : Range) (v : ℕ) → l ≡ BlockFirst r v
             → Leads H B rec a W w (fs ++ F.Rounds l m d ∷ []) x h σ given steps entries recorded
-            → Next H B rec a W w fs (F.Rounds l m d) steps (((((fs ++ F.Rounds l m d ∷ []) ++ F.Tests l m d ∷ []) ++ F.Value v 64 ∷ []) ++ F.EndsRound m ∷ []) ++ F.Block r d ∷ []) x h σ given (steps + 1) entries recorded
-        rounds_block_first l r v e ld =
-            let P : Repeated → Type 0 = λ l. Leads H B rec a W w (fs ++ F.Rounds l m d ∷ []) x h σ given steps entries recorded → Next H B rec a W w fs (F.Rounds l m d) steps (((((fs ++ F.Rounds l m d ∷ []) ++ F.Tests l m d ∷ []) ++ F.Value v 64 ∷ []) ++ F.EndsRound m ∷ []) ++ F.Block r d ∷ []) x h σ given (steps + 1) entries recorded in
-            subst P (sym e) (on_rounds_block_first m d b r v) ld
+            → Next H B rec a W w fs (F.Rounds l m d) steps (((((fs ++ F.Rounds l m d ∷ []) ++ F.Tests l m d ∷ []) ++ F.Value (test_of_loop l) 64 ∷ []) ++ F.EndsRound m ∷ []) ++ F.Block r d ∷ []) x h σ given (steps + 1) entries recorded
+        rounds_block_first l r v e ld = let l' = rw e at ld in rw e (on_rounds_block_first m d b r v l')
 
-      module _ (v : ℕ) (h' : S) (eh : h' ≡ H.next h (test_of 0 given)) (ea : Value v ≡ H.answer h (test_of 0 given)) (e0 : eqb v 0 ≡ false) where
+      module _ (v : ℕ) (h' : S) (eh : h' ≡ H.next h (test_of 0 given)) (ea : Ok v ≡ H.answer h (test_of 0 given)) (e0 : eqb v 0 ≡ false) where
         pub tests_test_first : (l : Repeated) (k : ℕ) (r : Range) → l ≡ TestFirst k r
             → Leads H B rec a W w (fs ++ F.Tests l m d ∷ []) x h σ given steps entries recorded
             → Next H B rec a W w fs (F.Tests l m d) steps ((fs ++ F.EndsRound m ∷ []) ++ F.Block r d ∷ []) x h' σ v steps entries recorded
-        tests_test_first l k r e ld =
-            let P : Repeated → Type 0 = λ l. Leads H B rec a W w (fs ++ F.Tests l m d ∷ []) x h σ given steps entries recorded → Next H B rec a W w fs (F.Tests l m d) steps ((fs ++ F.EndsRound m ∷ []) ++ F.Block r d ∷ []) x h' σ v steps entries recorded in
-            subst P (sym e) (on_tests_test_first m d v h' eh ea e0 k r) ld
+        tests_test_first l k r e ld = let l' = rw e at ld in rw e (on_tests_test_first m d v h' eh ea e0 k r l')
 
         pub tests_block_first : (l : Repeated) (r : Range) (k : ℕ) → l ≡ BlockFirst r k
             → Leads H B rec a W w (fs ++ F.Tests l m d ∷ []) x h σ given steps entries recorded
             → Next H B rec a W w fs (F.Tests l m d) steps fs x h' σ v steps entries recorded
-        tests_block_first l r k e ld =
-            let P : Repeated → Type 0 = λ l. Leads H B rec a W w (fs ++ F.Tests l m d ∷ []) x h σ given steps entries recorded → Next H B rec a W w fs (F.Tests l m d) steps fs x h' σ v steps entries recorded in
-            subst P (sym e) (on_tests_block_first m d v h' eh ea e0 r k) ld
+        tests_block_first l r k e ld = let l' = rw e at ld in rw e (on_tests_block_first m d v h' eh ea e0 r k l')
 
         pub tests_update : (l : Repeated) (k : ℕ) (u : ℕ) (r : Range) → l ≡ Updating k (Some u) r
             → Leads H B rec a W w (fs ++ F.Tests l m d ∷ []) x h σ given steps entries recorded
             → Next H B rec a W w fs (F.Tests l m d) steps (((fs ++ F.Value u 64 ∷ []) ++ F.EndsRound m ∷ []) ++ F.Block r d ∷ []) x h' σ v steps entries recorded
-        tests_update l k u r e ld =
-            let P : Repeated → Type 0 = λ l. Leads H B rec a W w (fs ++ F.Tests l m d ∷ []) x h σ given steps entries recorded → Next H B rec a W w fs (F.Tests l m d) steps (((fs ++ F.Value u 64 ∷ []) ++ F.EndsRound m ∷ []) ++ F.Block r d ∷ []) x h' σ v steps entries recorded in
-            subst P (sym e) (on_tests_update m d v h' eh ea e0 k u r) ld
+        tests_update l k u r e ld = let l' = rw e at ld in rw e (on_tests_update m d v h' eh ea e0 k u r l')
 
         pub tests_no_update : (l : Repeated) (k : ℕ) (r : Range) → l ≡ Updating k None r
             → Leads H B rec a W w (fs ++ F.Tests l m d ∷ []) x h σ given steps entries recorded
             → Next H B rec a W w fs (F.Tests l m d) steps ((fs ++ F.EndsRound m ∷ []) ++ F.Block r d ∷ []) x h' σ v steps entries recorded
-        tests_no_update l k r e ld =
-            let P : Repeated → Type 0 = λ l. Leads H B rec a W w (fs ++ F.Tests l m d ∷ []) x h σ given steps entries recorded → Next H B rec a W w fs (F.Tests l m d) steps ((fs ++ F.EndsRound m ∷ []) ++ F.Block r d ∷ []) x h' σ v steps entries recorded in
-            subst P (sym e) (on_tests_no_update m d v h' eh ea e0 k r) ld
+        tests_no_update l k r e ld = let l' = rw e at ld in rw e (on_tests_no_update m d v h' eh ea e0 k r l')
 
-        pub tests_updating : (l : Repeated) (k : ℕ) (o : Option ℕ) (u : ℕ) (r : Range) → l ≡ Updating k o r → o ≡ Some u
+        pub tests_updating : (l : Repeated) (k : ℕ) (o : Option ℕ) (r : Range) → l ≡ Updating k o r
             → Leads H B rec a W w (fs ++ F.Tests l m d ∷ []) x h σ given steps entries recorded
-            → Next H B rec a W w fs (F.Tests l m d) steps (((fs ++ F.Value u 64 ∷ []) ++ F.EndsRound m ∷ []) ++ F.Block r d ∷ []) x h' σ v steps entries recorded
-        tests_updating l k o u r e eo ld = tests_update l k u r (e ∙ ap (λ (z : Option ℕ). Updating k z r) eo) ld
-
-        pub tests_not_updating : (l : Repeated) (k : ℕ) (o : Option ℕ) (r : Range) → l ≡ Updating k o r → o ≡ None
-            → Leads H B rec a W w (fs ++ F.Tests l m d ∷ []) x h σ given steps entries recorded
-            → Next H B rec a W w fs (F.Tests l m d) steps ((fs ++ F.EndsRound m ∷ []) ++ F.Block r d ∷ []) x h' σ v steps entries recorded
-        tests_not_updating l k o r e eo ld = tests_no_update l k r (e ∙ ap (λ (z : Option ℕ). Updating k z r) eo) ld
+            → Next H B rec a W w fs (F.Tests l m d) steps (((fs ++ updates o) ++ F.EndsRound m ∷ []) ++ F.Block r d ∷ []) x h' σ v steps entries recorded
+        tests_updating l k (Some u) r e ld = tests_update l k u r e ld
+        tests_updating l k None r e ld = rw append-nil (tests_no_update l k r e ld)

@@ -21,11 +21,11 @@ beyond n zero (y ∷ ss) ds h = absurd (omega arith)
 beyond n (suc x) (y ∷ ss) ds h = beyond (suc n) x ss ds (omega arith)
 
 module _ (T : Tables) (x : ℕ) where
-  pub record_there : (s : ReactiveScope) → x < length (vec_items T.environment.scopes) → s ≡ get_or (vec_items T.environment.scopes) x s
+  pub record_there : (s : ReactiveScope) → x < length (vec_items T.environment.scopes.vec) → s ≡ get_or (vec_items T.environment.scopes.vec) x s
       → records_of (function_of T).scopes x ≡ recorded_place s.early
   unfolding held
-  record_there s h e = there 0 x (vec_items T.environment.scopes) (vec_items T.environment.declarations) s h e
+  record_there s h e = there 0 x (vec_items T.environment.scopes.vec) (vec_items T.environment.declarations.vec) s h e
 
-  pub record_beyond : length (vec_items T.environment.scopes) ≤ x → records_of (function_of T).scopes x ≡ None
+  pub record_beyond : length (vec_items T.environment.scopes.vec) ≤ x → records_of (function_of T).scopes x ≡ None
   unfolding held
-  record_beyond h = beyond 0 x (vec_items T.environment.scopes) (vec_items T.environment.declarations) h
+  record_beyond h = beyond 0 x (vec_items T.environment.scopes.vec) (vec_items T.environment.declarations.vec) h

@@ -1,9 +1,10 @@
 -- Options and rows of a list.
 -- A row's first entry, and the row behind it.
-use Rattle.std.proofs.Common.{◌≡◌, ℕ, zero, suc, ◌+◌, ◌-◌, ◌<◌, ◌≤◌, Bool, true, false, cond, leb, List, [], ◌∷◌, length, get_or, take, drop, Some, None, Option, sym, refl, ap, ◌∙◌, suc-le-suc, add-one, arith, drop-drop, leb-true}
+use Rattle.std.proofs.Common.{◌≡◌, ℕ, zero, suc, ◌+◌, ◌-◌, ◌<◌, ◌≤◌, Bool, true, false, cond, leb, List, [], ◌∷◌, length, get_or, take, drop, Some, None, Option, sym, refl, ap, ◌∙◌, suc-le-suc, add-one, arith, drop-drop, drop-cons, leb-true}
 use Rattle.std.proofs.lemmas.Bool.{le-leb}
 use Rattle.hir.specs.declared.range.Range.{Range}
 use Rattle.hir.specs.Options.{bind, nth, part}
+use Rattle.run.specs.Frames.{behind}
 
 pub none_some : {X : Type 0} {Y : Type 0} (y : Y) → ◌≡◌ {A = Option Y} None (Some y) → X
 none_some y e = let z : ◌≡◌ {A = ℕ} 0 1 = cc in absurd (omega arith)
@@ -34,9 +35,13 @@ drop_nth [] k x e = none_some x e
 drop_nth (y ∷ xs) zero x e = ap (λ (z : _). z ∷ xs) (some_is e)
 drop_nth (y ∷ xs) (suc k) x e = drop_nth xs k x e
 
--- the row behind the first n entries
-abbrev pub behind : Range → ℕ → Range
-behind r n = record { start = r.start + n; count = r.count - n }
+-- what is left of a list, and its first entry
+pub next_of : {X : Type 0} (xs : List X) (i : ℕ) (d : X) → i < length xs → drop i xs ≡ get_or xs i d ∷ drop (i + 1) xs
+next_of xs i d h = rw (add-one, drop-cons xs i d)
+
+pub next_some : {X : Type 0} (xs : List X) (i : ℕ) → i < length xs → (x : X) × (drop i xs ≡ x ∷ drop (i + 1) xs)
+next_some [] i h = absurd (omega arith)
+next_some (x ∷ xs) i h = (get_or (x ∷ xs) i x, next_of (x ∷ xs) i x h)
 
 pub row_in : {X : Type 0} (xs ys : List X) (r : Range) → part xs r ≡ Some ys → (r.start + r.count ≤ length xs) × (ys ≡ take r.count (drop r.start xs))
 row_in xs ys r e = go (leb (r.start + r.count) (length xs)) refl e
@@ -48,6 +53,12 @@ row_in xs ys r e = go (leb (r.start + r.count) (length xs)) refl e
 
 pub row_of : {X : Type 0} (xs : List X) (r : Range) → r.start + r.count ≤ length xs → part xs r ≡ Some (take r.count (drop r.start xs))
 row_of xs r h = rw (le-leb _ _ h)
+
+pub behind_is : (q r : Range) (n : ℕ) → q.start ≡ r.start + n → q.count ≡ r.count - n → q ≡ behind r n
+behind_is q r n es ec = rw (← es, ← ec)
+
+pub is_row : {X : Type 0} (xs ys : List X) (r : Range) → r.start + r.count ≤ length xs → ys ≡ take r.count (drop r.start xs) → part xs r ≡ Some ys
+is_row {X = X} xs ys r h e = row_of xs r h ∙ ap (λ (l : List X). Some l) (sym e)
 
 pub row_nil : {X : Type 0} (xs ys : List X) (r : Range) → part xs r ≡ Some ys → r.count ≡ 0 → ys ≡ []
 row_nil xs ys r e z = (row_in xs ys r e).1 ∙ ap (λ (n : ℕ). take n (drop r.start xs)) z

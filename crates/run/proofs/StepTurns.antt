@@ -1,6 +1,7 @@
 -- The turns of the tasks that a value leaves: a sequence's instructions, what takes a value, what tests one.
 -- An instruction of a sequence costs a step.
-use Rattle.std.proofs.Common.{◌≡◌, ℕ, suc, ◌+◌, ◌<◌, ◌≤◌, Bool, true, false, eqb, ltb, List, [], ◌∷◌, ◌++◌, length, Some, None, Option, refl, ap, ◌∙◌, arith}
+use Rattle.std.proofs.Common.{◌≡◌, ℕ, suc, ◌+◌, ◌<◌, ◌≤◌, Bool, true, false, eqb, ltb, List, [], ◌∷◌, ◌++◌, length, Some, None, Option, refl, ap, ◌∙◌, arith, Ok}
+use Rattle.host.specs.Asked.{thrown}
 use Rattle.std.proofs.lemmas.Bool.{lt-ltb, le-ltb}
 use Rattle.hir.specs.declared.place.Place.{Place}
 use Rattle.hir.specs.declared.range.Range.{Range}
@@ -8,16 +9,15 @@ use Rattle.hir.specs.declared.value.ReactiveInstruction.{ReactiveInstruction}
 use Rattle.hir.specs.Decode.{Slots}
 use Rattle.hir.specs.Options.{nth}
 use Rattle.hir.specs.Tree.{inil, icons, instr}
-use Rattle.host.specs.declared.Reply.TheVariants.{Value, Thrown}
 use Rattle.semantics.specs.Machine.{Meaning, Result, bind, branch, ask, on_reply, tick}
 use Rattle.run.specs.declared.frame.Exit.{Exit}
 use Rattle.run.specs.declared.frame.Exit.TheVariants as E
 use Rattle.run.specs.declared.frame.Frame.{Frame}
 use Rattle.run.specs.declared.frame.Frame.TheVariants as F
+use Rattle.run.specs.Frames.{behind}
 use Rattle.run.specs.Tasks.{value, assigns, instrs, after_left, after_test}
 use Rattle.run.specs.Turn.{Leads, Next, kept, test_of}
 use Rattle.run.proofs.Decoded.{instrs_in, instrs_end, instrs_first}
-use Rattle.run.proofs.Rows.{behind}
 use Rattle.run.proofs.Stack.{later}
 use Rattle.run.proofs.Turning.{top, stay, goes, paying, snoc_length}
 
@@ -88,7 +88,7 @@ module _ {S : Type 0} (H : Meaning S) (B : ℕ) (rec : ℕ → Option ℕ) (a : 
 
   -- ---- what tests one
   module _ (p : ℕ) (v : ℕ) (h' : S) (eh : h' ≡ H.next h (test_of p given)) where
-    pub on_left_threw : (k d : ℕ) → Thrown v ≡ H.answer h (test_of p given)
+    pub on_left_threw : (k d : ℕ) → thrown v ≡ H.answer h (test_of p given)
         → Leads H B rec a W w (fs ++ F.AfterLeft p k d ∷ []) x h σ given steps entries recorded
         → Next H B rec a W w fs (F.AfterLeft p k d) steps fs (E.Threw v) h' σ given steps entries recorded
     unfolding bind ask on_reply
@@ -97,7 +97,7 @@ module _ {S : Type 0} (H : Meaning S) (B : ℕ) (rec : ℕ → Option ℕ) (a : 
         let m = o.means in
         goes H B rec a W w o (after_left p m.0) m.1 fs o.kont (E.Threw v) h' σ given entries o.stacked (omega arith) (rw (eh, ← ea)) (omega arith)
 
-    pub on_left_yes : (k d : ℕ) → Value v ≡ H.answer h (test_of p given) → eqb v 0 ≡ false
+    pub on_left_yes : (k d : ℕ) → Ok v ≡ H.answer h (test_of p given) → eqb v 0 ≡ false
         → Leads H B rec a W w (fs ++ F.AfterLeft p k d ∷ []) x h σ given steps entries recorded
         → Next H B rec a W w fs (F.AfterLeft p k d) steps (fs ++ F.Value k d ∷ []) x h' σ v steps entries recorded
     unfolding bind ask on_reply branch
@@ -106,7 +106,7 @@ module _ {S : Type 0} (H : Meaning S) (B : ℕ) (rec : ℕ → Option ℕ) (a : 
         let m = o.means in
         stay H B rec a W w o (after_left p m.0) m.1 _ (value m.0 ∷ o.kont) n h' σ v entries (F.Value k d, fs, refl, (m.0, refl, m.2, m.3), o.stacked) (omega arith) (rw (eh, ← ea, b)) (omega arith)
 
-    pub on_left_no : (k d : ℕ) → Value v ≡ H.answer h (test_of p given) → eqb v 0 ≡ true
+    pub on_left_no : (k d : ℕ) → Ok v ≡ H.answer h (test_of p given) → eqb v 0 ≡ true
         → Leads H B rec a W w (fs ++ F.AfterLeft p k d ∷ []) x h σ given steps entries recorded
         → Next H B rec a W w fs (F.AfterLeft p k d) steps fs x h' σ given steps entries recorded
     unfolding bind ask on_reply branch
@@ -116,7 +116,7 @@ module _ {S : Type 0} (H : Meaning S) (B : ℕ) (rec : ℕ → Option ℕ) (a : 
         stay H B rec a W w o (after_left p m.0) m.1 fs o.kont n h' σ given entries o.stacked (omega arith) (rw (eh, ← ea, b)) (omega arith)
 
   module _ (v : ℕ) (h' : S) (eh : h' ≡ H.next h (test_of 0 given)) where
-    pub on_test_threw : (k l d : ℕ) → Thrown v ≡ H.answer h (test_of 0 given)
+    pub on_test_threw : (k l d : ℕ) → thrown v ≡ H.answer h (test_of 0 given)
         → Leads H B rec a W w (fs ++ F.AfterTest k l d ∷ []) x h σ given steps entries recorded
         → Next H B rec a W w fs (F.AfterTest k l d) steps fs (E.Threw v) h' σ given steps entries recorded
     unfolding bind ask on_reply
@@ -125,7 +125,7 @@ module _ {S : Type 0} (H : Meaning S) (B : ℕ) (rec : ℕ → Option ℕ) (a : 
         let m = o.means in
         goes H B rec a W w o (after_test m.0 m.1) m.2 fs o.kont (E.Threw v) h' σ given entries o.stacked (omega arith) (rw (eh, ← ea)) (omega arith)
 
-    pub on_test_yes : (k l d : ℕ) → Value v ≡ H.answer h (test_of 0 given) → eqb v 0 ≡ false
+    pub on_test_yes : (k l d : ℕ) → Ok v ≡ H.answer h (test_of 0 given) → eqb v 0 ≡ false
         → Leads H B rec a W w (fs ++ F.AfterTest k l d ∷ []) x h σ given steps entries recorded
         → Next H B rec a W w fs (F.AfterTest k l d) steps (fs ++ F.Value k d ∷ []) x h' σ v steps entries recorded
     unfolding bind ask on_reply branch
@@ -134,7 +134,7 @@ module _ {S : Type 0} (H : Meaning S) (B : ℕ) (rec : ℕ → Option ℕ) (a : 
         let m = o.means in
         stay H B rec a W w o (after_test m.0 m.1) m.2 _ (value m.0 ∷ o.kont) n h' σ v entries (F.Value k d, fs, refl, (m.0, refl, m.3, m.5), o.stacked) (omega arith) (rw (eh, ← ea, b)) (omega arith)
 
-    pub on_test_no : (k l d : ℕ) → Value v ≡ H.answer h (test_of 0 given) → eqb v 0 ≡ true
+    pub on_test_no : (k l d : ℕ) → Ok v ≡ H.answer h (test_of 0 given) → eqb v 0 ≡ true
         → Leads H B rec a W w (fs ++ F.AfterTest k l d ∷ []) x h σ given steps entries recorded
         → Next H B rec a W w fs (F.AfterTest k l d) steps (fs ++ F.Value l d ∷ []) x h' σ v steps entries recorded
     unfolding bind ask on_reply branch

@@ -1,13 +1,14 @@
 -- The turns of a switch: case by case until one says yes, then the blocks from there on.
 -- With no yes the first case without a test is taken, or none.
-use Rattle.std.proofs.Common.{◌≡◌, ℕ, zero, suc, ◌+◌, ◌<◌, ◌≤◌, Bool, true, false, eqb, List, [], ◌∷◌, ◌++◌, length, Some, None, Option, sym, refl, ap, ◌∙◌, subst, le_refl, add-zero, add-one, arith}
+use Rattle.std.proofs.Common.{◌≡◌, ℕ, zero, suc, ◌+◌, ◌<◌, ◌≤◌, Bool, true, false, eqb, List, [], ◌∷◌, ◌++◌, length, Some, None, Option, sym, refl, ap, ◌∙◌, subst, le_refl, add-zero, add-one, unwrap_or, arith, Ok}
+use Rattle.std.specs.Option.{option_or}
+use Rattle.host.specs.Asked.{thrown}
 use Rattle.hir.specs.declared.place.Place.{Place}
 use Rattle.hir.specs.declared.range.Range.{Range}
 use Rattle.hir.specs.declared.terminal.ReactiveSwitchCase.{ReactiveSwitchCase}
 use Rattle.hir.specs.Decode.{Slots, opt_block_of}
 use Rattle.hir.specs.Options.{nth}
 use Rattle.hir.specs.Tree.{Cases, knil, kcons, OptBlock, no_block, some_block}
-use Rattle.host.specs.declared.Reply.TheVariants.{Value, Thrown}
 use Rattle.semantics.specs.Machine.{Meaning, State, Result, bind, map_out, branch, ask, on_reply, look}
 use Rattle.semantics.specs.Targets.{Around, in_switch, aim_k, aim_o}
 use Rattle.semantics.specs.Exec.{select, run_from, end_loop, within}
@@ -16,11 +17,11 @@ use Rattle.run.specs.declared.frame.Exit.TheVariants as E
 use Rattle.run.specs.declared.frame.Selection.{Selection}
 use Rattle.run.specs.declared.frame.Frame.{Frame}
 use Rattle.run.specs.declared.frame.Frame.TheVariants as F
-use Rattle.run.specs.Frames.{AtMost, block_at}
+use Rattle.run.specs.Frames.{AtMost, block_at, behind}
 use Rattle.run.specs.Tasks.{block, ends_switch, selects, cases, first, around, resume, w_k}
 use Rattle.run.specs.Turn.{Leads, Next, state_of, case_of}
 use Rattle.run.proofs.Decoded.{drop_k, cases_in, cases_end, cases_first, cases_behind}
-use Rattle.run.proofs.Rows.{behind, bound, some_is}
+use Rattle.run.proofs.Rows.{bound, some_is}
 use Rattle.run.proofs.Stack.{Opened}
 use Rattle.run.proofs.Turning.{top, stay, goes, snoc_length}
 
@@ -99,7 +100,7 @@ module _ {S : Type 0} (H : Meaning S) (B : ℕ) (rec : ℕ → Option ℕ) where
       pub select_rows : (c.rest.start + c.rest.count ≤ length a.cases) × (c.all.start + c.all.count ≤ length a.cases) × (c.next + c.rest.count ≡ c.all.count)
       select_rows = let q = opening.means in (cases_in a d c.rest q.0 q.3, cases_in a d c.all q.1 q.4, q.5)
 
-      pub default_within : (z : ℕ) → c.default ≡ Some z → z ≤ c.all.count
+      default_within : (z : ℕ) → c.default ≡ Some z → z ≤ c.all.count
       default_within z e = subst (λ (y : Option ℕ). AtMost y c.all.count) e opening.means.6
 
       abbrev A : Around
@@ -133,20 +134,37 @@ module _ {S : Type 0} (H : Meaning S) (B : ℕ) (rec : ℕ → Option ℕ) where
           ∙ ap (λ (y : ℕ). resume H B rec o.kont (bind (select H (within H B) c.value (aim_k cs K) c.next y s) chosen)) (sym ef))
           (omega arith)
 
-      pub on_selects_default : (z : ℕ) → c.rest.count ≡ 0 → c.default ≡ Some z
+      on_selects_default : (z : ℕ) → c.rest.count ≡ 0 → c.default ≡ Some z
           → Next H B rec a W w fs (F.Selects c m d) steps ((fs ++ F.EndsSwitch m ∷ []) ++ F.Cases (behind c.all z) d ∷ []) x h σ z steps entries recorded
       unfolding bind
       on_selects_default z e0 ed =
           let q = opening.means in
           taken knil z z h (cases_end a d c.rest q.0 q.3 e0) (subst (λ (y : Option ℕ). AtMost y c.all.count) ed q.6) (ap (λ (y : Option ℕ). first y knil c.next) ed) refl
 
-      pub on_selects_none : c.rest.count ≡ 0 → c.default ≡ None
+      on_selects_none : c.rest.count ≡ 0 → c.default ≡ None
           → Next H B rec a W w fs (F.Selects c m d) steps ((fs ++ F.EndsSwitch m ∷ []) ++ F.Cases (behind c.all c.next) d ∷ []) x h σ c.next steps entries recorded
       unfolding bind
       on_selects_none e0 ed =
           let q = opening.means in
           let s = q.5 in
           taken knil c.next c.next h (cases_end a d c.rest q.0 q.3 e0) (omega arith) (ap (λ (y : Option ℕ). first y knil c.next) ed ∙ add-zero c.next) refl
+
+      -- the first case without a test is taken, or none
+      pub chosen_within : unwrap_or c.default c.next ≤ c.all.count
+      chosen_within = go c.default refl
+        where
+          go : (o : Option ℕ) → c.default ≡ o → unwrap_or o c.next ≤ c.all.count
+          go (Some z) e = default_within z e
+          go None e = let s = opening.means.5 in omega arith
+
+      pub on_selects_end : (z : ℕ) → c.rest.count ≡ 0 → z ≡ unwrap_or c.default c.next
+          → Next H B rec a W w fs (F.Selects c m d) steps ((fs ++ F.EndsSwitch m ∷ []) ++ F.Cases (behind c.all z) d ∷ []) x h σ z steps entries recorded
+      on_selects_end z e0 ez = go c.default refl
+        where
+          go : (o : Option ℕ) → c.default ≡ o
+              → Next H B rec a W w fs (F.Selects c m d) steps ((fs ++ F.EndsSwitch m ∷ []) ++ F.Cases (behind c.all z) d ∷ []) x h σ z steps entries recorded
+          go (Some y) e = let e' : z ≡ y = rw e at ez in rw e' (on_selects_default y e0 e)
+          go None e = let e' : z ≡ c.next = rw e at ez in rw e' (on_selects_none e0 e)
 
       -- ---- a case to ask for
       module _ (y : ReactiveSwitchCase) (some : 0 < c.rest.count) (at : nth a.cases c.rest.start ≡ Some y) where
@@ -182,14 +200,14 @@ module _ {S : Type 0} (H : Meaning S) (B : ℕ) (rec : ℕ → Option ℕ) where
             ∙ ap (λ (i : ℕ). resume H B rec o.kont (bind (select H (within H B) v (aim_k (kcons t b cs) A) c.next i s) chosen)) (sym (ef b cs)))
             (omega arith)
 
-        pub on_untested : (z : ℕ) → y.test ≡ None → c.default ≡ Some z
+        on_untested_later : (z : ℕ) → y.test ≡ None → c.default ≡ Some z
             → Next H B rec a W w fs (F.Selects c m d) steps
             (fs ++ F.Selects (record { value = c.value; rest = behind c.rest 1; next = c.next + 1; default = Some z; all = c.all }) m d ∷ []) x h σ given steps entries recorded
-        on_untested z et ed =
+        on_untested_later z et ed =
             goes_on None (Some z) (λ b cs. z) h given et (subst (λ (y : Option ℕ). AtMost y c.all.count) ed opening.means.6)
             (λ b cs. ap (λ (u : Option ℕ). first u (aim_k (kcons None b cs) A) c.next) ed) (λ b cs. refl) (λ b cs. refl)
 
-        pub on_untested_first : y.test ≡ None → c.default ≡ None
+        on_untested_first : y.test ≡ None → c.default ≡ None
             → Next H B rec a W w fs (F.Selects c m d) steps
             (fs ++ F.Selects (record { value = c.value; rest = behind c.rest 1; next = c.next + 1; default = Some c.next; all = c.all }) m d ∷ []) x h σ given steps entries recorded
         on_untested_first et ed =
@@ -197,8 +215,19 @@ module _ {S : Type 0} (H : Meaning S) (B : ℕ) (rec : ℕ → Option ℕ) where
             goes_on None (Some c.next) (λ b cs. c.next) h given et (omega arith)
             (λ b cs. ap (λ (u : Option ℕ). first u (aim_k (kcons None b cs) A) c.next) ed ∙ add-zero c.next) (λ b cs. refl) (λ b cs. refl)
 
+        pub on_untested : y.test ≡ None
+            → Next H B rec a W w fs (F.Selects c m d) steps
+            (fs ++ F.Selects (record { value = c.value; rest = behind c.rest 1; next = c.next + 1; default = option_or c.default (Some c.next); all = c.all }) m d ∷ []) x h σ given steps entries recorded
+        on_untested et = go c.default refl
+          where
+            go : (o : Option ℕ) → c.default ≡ o
+                → Next H B rec a W w fs (F.Selects c m d) steps
+                (fs ++ F.Selects (record { value = c.value; rest = behind c.rest 1; next = c.next + 1; default = option_or o (Some c.next); all = c.all }) m d ∷ []) x h σ given steps entries recorded
+            go (Some z) e = on_untested_later z et e
+            go None e = on_untested_first et e
+
         module _ (p : Place) (u v : ℕ) (et : y.test ≡ Some p) (eu : u ≡ look σ p.identifier) (h' : S) (eh : h' ≡ H.next h (case_of c.value u)) where
-          pub on_case_no : Value v ≡ H.answer h (case_of c.value u) → eqb v 0 ≡ true
+          pub on_case_no : Ok v ≡ H.answer h (case_of c.value u) → eqb v 0 ≡ true
               → Next H B rec a W w fs (F.Selects c m d) steps
               (fs ++ F.Selects (record { value = c.value; rest = behind c.rest 1; next = c.next + 1; default = c.default; all = c.all }) m d ∷ []) x h' σ v steps entries recorded
           unfolding ask on_reply branch
@@ -208,7 +237,7 @@ module _ {S : Type 0} (H : Meaning S) (B : ℕ) (rec : ℕ → Option ℕ) where
               goes_on (Some p) c.default (λ b cs. first c.default (aim_k cs A) (suc c.next)) h' v et opening.means.6
               (λ b cs. sym (first_next c.default p (aim_o b A) (aim_k cs A) c.next)) (λ b cs. refl) (λ b cs. rw (eh', ← ea', e0))
 
-          pub on_case_yes : Value v ≡ H.answer h (case_of c.value u) → eqb v 0 ≡ false
+          pub on_case_yes : Ok v ≡ H.answer h (case_of c.value u) → eqb v 0 ≡ false
               → Next H B rec a W w fs (F.Selects c m d) steps ((fs ++ F.EndsSwitch m ∷ []) ++ F.Cases (behind c.all c.next) d ∷ []) x h' σ c.next steps entries recorded
           unfolding bind ask on_reply branch
           on_case_yes ea e0 =
@@ -219,7 +248,7 @@ module _ {S : Type 0} (H : Meaning S) (B : ℕ) (rec : ℕ → Option ℕ) where
               let r = cases_first a d c.rest q.0 q.3 y some at in
               taken (kcons (Some p) r.0 r.1) c.next _ h' (r.2 ∙ ap (λ (z : Option Place). kcons z r.0 r.1) et) (omega arith) refl (rw (eh', ← ea', e0))
 
-          pub on_case_threw : Thrown v ≡ H.answer h (case_of c.value u)
+          pub on_case_threw : thrown v ≡ H.answer h (case_of c.value u)
               → Next H B rec a W w fs (F.Selects c m d) steps fs (E.Threw v) h' σ given steps entries recorded
           unfolding bind ask on_reply
           on_case_threw ea =

@@ -1,33 +1,35 @@
 -- The turns of terminals, once their step is paid.
 -- A label's end lies below the parts of its statement; a jump has nothing inside.
-use Rattle.std.proofs.Common.{◌≡◌, ℕ, suc, Bool, true, false, eqb, List, [], ◌∷◌, ◌++◌, length, Some, None, Option, sym, refl, ap, ◌∙◌, subst, zero-add, arith}
+use Rattle.std.proofs.Common.{◌≡◌, ℕ, suc, Bool, true, false, cond, eqb, List, [], ◌∷◌, ◌++◌, length, Some, None, Option, sym, refl, ap, ◌∙◌, subst, zero-add, arith, Ok}
+use Rattle.host.specs.Asked.{thrown}
 use Rattle.hir.specs.declared.place.Place.{Place}
 use Rattle.hir.specs.declared.range.Range.{Range}
 use Rattle.hir.specs.declared.statement.ReactiveStatement.TheVariants as K
 use Rattle.hir.specs.declared.terminal.ReactiveTerminal.{ReactiveTerminal}
 use Rattle.hir.specs.declared.terminal.ReactiveTerminal.TheVariants as R
 use Rattle.hir.specs.declared.terminal.ReactiveTerminalStatement.{ReactiveTerminalStatement}
+use Rattle.hir.specs.declared.terminal.ReactiveTerminalTargetKind.{ReactiveTerminalTargetKind}
 use Rattle.hir.specs.declared.terminal.ReactiveTerminalTargetKind.TheVariants.{Implicit, Labeled, Unlabeled}
 use Rattle.hir.specs.Decode.{Slots}
 use Rattle.hir.specs.Options.{nth}
 use Rattle.hir.specs.Tree.{OptBlock, no_block, some_block, terminal, Term, break, continue, return, throw, switch, do_while, while, for, for_of, for_in, if, label, try}
-use Rattle.host.specs.declared.Reply.TheVariants.{Value, Thrown}
-use Rattle.semantics.specs.Machine.{Meaning, Result, bind, map_out, branch, ask, on_reply, look}
-use Rattle.semantics.specs.Targets.{mark, labelled, in_switch, aim_k}
+use Rattle.semantics.specs.Machine.{Meaning, State, Result, normal, done, bind, map_out, branch, ask, on_reply, look}
+use Rattle.semantics.specs.Targets.{Around, mark, labelled, in_switch, aim_k}
 use Rattle.semantics.specs.Exec.{default, select, run_from, end_loop, end_label, within}
 use Rattle.run.specs.declared.frame.Exit.{Exit}
 use Rattle.run.specs.declared.frame.Exit.TheVariants as E
 use Rattle.run.specs.declared.frame.Loop.TheVariants.{TestFirst, BlockFirst, Updating}
 use Rattle.run.specs.declared.frame.Selection.{Selection}
+use Rattle.run.specs.declared.frame.Target.{Target}
 use Rattle.run.specs.declared.frame.Target.TheVariants as T
 use Rattle.run.specs.declared.frame.Frame.{Frame}
 use Rattle.run.specs.declared.frame.Frame.TheVariants as F
-use Rattle.run.specs.Exits.{any}
+use Rattle.run.specs.Exits.{any, exit_to, jumped, label_of}
 use Rattle.run.specs.Frames.{block_at}
-use Rattle.run.specs.Tasks.{test_first, block_first, updating, block, begun, value, ends_label, starts, selects, catches, around, resume}
-use Rattle.run.specs.Turn.{Leads, Next, state_of, test_of}
-use Rattle.run.proofs.Jumps.{found, any_found}
-use Rattle.run.proofs.Rows.{bound, some_is}
+use Rattle.run.specs.Tasks.{test_first, block_first, updating, block, begun, value, ends_label, starts, selects, catches, around, act, resume}
+use Rattle.run.specs.Turn.{Leads, Next, result, state_of, test_of}
+use Rattle.run.proofs.Around.{found, any_found}
+use Rattle.run.proofs.Rows.{bound, none_some, some_is}
 use Rattle.run.proofs.Stack.{Opened}
 use Rattle.run.proofs.StatementParts.{terminal_parts, Stands, switch_parts, do_while_parts, while_parts, for_in_parts, for_of_parts, for_parts, if_parts, label_parts, try_parts}
 use Rattle.run.proofs.Turning.{top, stay, goes, snoc_length}
@@ -53,93 +55,67 @@ module _ {S : Type 0} (H : Meaning S) (B : ℕ) (rec : ℕ → Option ℕ) (a : 
   task_is : {r : ReactiveTerminal} (b : Begun r) (v : Term) → b.u ≡ v → b.o.task ≡ begun (terminal v t.label)
   task_is b v e = b.is ∙ ap (λ (z : Term). begun (terminal z t.label)) e
 
-  pub on_break : (l i : ℕ) → t.terminal ≡ R.Break l i Unlabeled → any T.Break fs ≡ true
-      → Next H B rec a W w fs (F.Statement k d) steps fs (E.Broke None) h σ given steps entries recorded
-  unfolding bind map_out
-  on_break l i e hit =
-      let b = begin (R.Break l i Unlabeled) e in
-      let o = b.o in
-      let f : found T.Break (around o.kont) ≡ true = sym (any_found a B W steps T.Break fs o.kont o.stacked) ∙ hit in
-      goes H B rec a W w o (begun (terminal (break l i Unlabeled) t.label)) (task_is b _ (sym (some_is b.stands))) fs o.kont (E.Broke None) h σ given entries o.stacked (omega arith) (rw f) (omega arith)
+  -- a jump is taken where its target is around it
+  jump : (r : ReactiveTerminal) (u : Term) (τ : Target) → t.terminal ≡ r → ((b : Begun r) → b.u ≡ u)
+      → ((A : Around) (s : State S) → found τ A ≡ true → act H B rec A (begun (terminal u t.label)) (done normal s) ≡ result (exit_to τ) s)
+      → ((A : Around) (s : State S) → found τ A ≡ false → act H B rec A (begun (terminal u t.label)) (done normal s) ≡ done normal s)
+      → Next H B rec a W w fs (F.Statement k d) steps fs (jumped τ fs x) h σ given steps entries recorded
+  jump r u τ e is taken passed = go (any τ fs) refl
+    where
+      b : Begun r
+      b = begin r e
 
-  pub on_break_nowhere : (l i : ℕ) → t.terminal ≡ R.Break l i Unlabeled → any T.Break fs ≡ false
+      there : (v : Bool) → any τ fs ≡ v → found τ (around b.o.kont) ≡ v
+      there v f = sym (any_found a B W steps τ fs b.o.kont b.o.stacked) ∙ f
+
+      go : (v : Bool) → any τ fs ≡ v → Next H B rec a W w fs (F.Statement k d) steps fs (cond v (exit_to τ) x) h σ given steps entries recorded
+      go true f =
+          goes H B rec a W w b.o (begun (terminal u t.label)) (task_is b u (is b)) fs b.o.kont (exit_to τ) h σ given entries b.o.stacked (omega arith)
+          (ap (resume H B rec b.o.kont) (sym (taken (around b.o.kont) _ (there true f)))) (omega arith)
+      go false f =
+          stay H B rec a W w b.o (begun (terminal u t.label)) (task_is b u (is b)) fs b.o.kont n h σ given entries b.o.stacked (omega arith)
+          (ap (resume H B rec b.o.kont) (sym (passed (around b.o.kont) _ (there false f)))) (omega arith)
+
+  -- an implicit one goes on
+  implicit : (r : ReactiveTerminal) (u : Term) → t.terminal ≡ r → ((b : Begun r) → b.u ≡ u)
+      → ((A : Around) (s : State S) → act H B rec A (begun (terminal u t.label)) (done normal s) ≡ done normal s)
+      → Next H B rec a W w fs (F.Statement k d) steps fs x h σ given steps entries recorded
+  implicit r u e is passed =
+      let b = begin r e in
+      stay H B rec a W w b.o (begun (terminal u t.label)) (task_is b u (is b)) fs b.o.kont n h σ given entries b.o.stacked (omega arith)
+      (ap (resume H B rec b.o.kont) (sym (passed (around b.o.kont) _))) (omega arith)
+
+  pub on_break_by : (l i : ℕ) (q : ReactiveTerminalTargetKind) (o : Option ℕ) → t.terminal ≡ R.Break l i q → label_of l q ≡ Some o
+      → Next H B rec a W w fs (F.Statement k d) steps fs (jumped (T.Break o) fs x) h σ given steps entries recorded
+  unfolding bind map_out
+  on_break_by l i Implicit o e at = none_some o at
+  on_break_by l i Labeled o e at =
+      rw (← some_is at) (jump (R.Break l i Labeled) (break l i Labeled) (T.Break (Some l)) e (λ b. sym (some_is b.stands)) (λ A s f. rw f) (λ A s f. rw f))
+  on_break_by l i Unlabeled o e at =
+      rw (← some_is at) (jump (R.Break l i Unlabeled) (break l i Unlabeled) (T.Break None) e (λ b. sym (some_is b.stands)) (λ A s f. rw f) (λ A s f. rw f))
+
+  pub on_break_implicit : (l i : ℕ) (q : ReactiveTerminalTargetKind) → t.terminal ≡ R.Break l i q → ((o : Option ℕ) → label_of l q ≡ Some o → ⊥)
       → Next H B rec a W w fs (F.Statement k d) steps fs x h σ given steps entries recorded
   unfolding bind map_out
-  on_break_nowhere l i e miss =
-      let b = begin (R.Break l i Unlabeled) e in
-      let o = b.o in
-      let f : found T.Break (around o.kont) ≡ false = sym (any_found a B W steps T.Break fs o.kont o.stacked) ∙ miss in
-      stay H B rec a W w o (begun (terminal (break l i Unlabeled) t.label)) (task_is b _ (sym (some_is b.stands))) fs o.kont n h σ given entries o.stacked (omega arith) (rw f) (omega arith)
+  on_break_implicit l i Implicit e free = implicit (R.Break l i Implicit) (break l i Implicit) e (λ b. sym (some_is b.stands)) (λ A s. refl)
+  on_break_implicit l i Labeled e free = absurd (free _ refl)
+  on_break_implicit l i Unlabeled e free = absurd (free _ refl)
 
-  pub on_break_to : (l i : ℕ) → t.terminal ≡ R.Break l i Labeled → any (T.BreakTo l) fs ≡ true
-      → Next H B rec a W w fs (F.Statement k d) steps fs (E.Broke (Some l)) h σ given steps entries recorded
+  pub on_continue_by : (l i : ℕ) (q : ReactiveTerminalTargetKind) (o : Option ℕ) → t.terminal ≡ R.Continue l i q → label_of l q ≡ Some o
+      → Next H B rec a W w fs (F.Statement k d) steps fs (jumped (T.Continue o) fs x) h σ given steps entries recorded
   unfolding bind map_out
-  on_break_to l i e hit =
-      let b = begin (R.Break l i Labeled) e in
-      let o = b.o in
-      let f : found (T.BreakTo l) (around o.kont) ≡ true = sym (any_found a B W steps (T.BreakTo l) fs o.kont o.stacked) ∙ hit in
-      goes H B rec a W w o (begun (terminal (break l i Labeled) t.label)) (task_is b _ (sym (some_is b.stands))) fs o.kont (E.Broke (Some l)) h σ given entries o.stacked (omega arith) (rw f) (omega arith)
+  on_continue_by l i Implicit o e at = none_some o at
+  on_continue_by l i Labeled o e at =
+      rw (← some_is at) (jump (R.Continue l i Labeled) (continue l i Labeled) (T.Continue (Some l)) e (λ b. sym (some_is b.stands)) (λ A s f. rw f) (λ A s f. rw f))
+  on_continue_by l i Unlabeled o e at =
+      rw (← some_is at) (jump (R.Continue l i Unlabeled) (continue l i Unlabeled) (T.Continue None) e (λ b. sym (some_is b.stands)) (λ A s f. rw f) (λ A s f. rw f))
 
-  pub on_break_to_nowhere : (l i : ℕ) → t.terminal ≡ R.Break l i Labeled → any (T.BreakTo l) fs ≡ false
+  pub on_continue_implicit : (l i : ℕ) (q : ReactiveTerminalTargetKind) → t.terminal ≡ R.Continue l i q → ((o : Option ℕ) → label_of l q ≡ Some o → ⊥)
       → Next H B rec a W w fs (F.Statement k d) steps fs x h σ given steps entries recorded
   unfolding bind map_out
-  on_break_to_nowhere l i e miss =
-      let b = begin (R.Break l i Labeled) e in
-      let o = b.o in
-      let f : found (T.BreakTo l) (around o.kont) ≡ false = sym (any_found a B W steps (T.BreakTo l) fs o.kont o.stacked) ∙ miss in
-      stay H B rec a W w o (begun (terminal (break l i Labeled) t.label)) (task_is b _ (sym (some_is b.stands))) fs o.kont n h σ given entries o.stacked (omega arith) (rw f) (omega arith)
-
-  pub on_continue : (l i : ℕ) → t.terminal ≡ R.Continue l i Unlabeled → any T.Continue fs ≡ true
-      → Next H B rec a W w fs (F.Statement k d) steps fs (E.Continued None) h σ given steps entries recorded
-  unfolding bind map_out
-  on_continue l i e hit =
-      let b = begin (R.Continue l i Unlabeled) e in
-      let o = b.o in
-      let f : found T.Continue (around o.kont) ≡ true = sym (any_found a B W steps T.Continue fs o.kont o.stacked) ∙ hit in
-      goes H B rec a W w o (begun (terminal (continue l i Unlabeled) t.label)) (task_is b _ (sym (some_is b.stands))) fs o.kont (E.Continued None) h σ given entries o.stacked (omega arith) (rw f) (omega arith)
-
-  pub on_continue_nowhere : (l i : ℕ) → t.terminal ≡ R.Continue l i Unlabeled → any T.Continue fs ≡ false
-      → Next H B rec a W w fs (F.Statement k d) steps fs x h σ given steps entries recorded
-  unfolding bind map_out
-  on_continue_nowhere l i e miss =
-      let b = begin (R.Continue l i Unlabeled) e in
-      let o = b.o in
-      let f : found T.Continue (around o.kont) ≡ false = sym (any_found a B W steps T.Continue fs o.kont o.stacked) ∙ miss in
-      stay H B rec a W w o (begun (terminal (continue l i Unlabeled) t.label)) (task_is b _ (sym (some_is b.stands))) fs o.kont n h σ given entries o.stacked (omega arith) (rw f) (omega arith)
-
-  pub on_continue_to : (l i : ℕ) → t.terminal ≡ R.Continue l i Labeled → any (T.ContinueTo l) fs ≡ true
-      → Next H B rec a W w fs (F.Statement k d) steps fs (E.Continued (Some l)) h σ given steps entries recorded
-  unfolding bind map_out
-  on_continue_to l i e hit =
-      let b = begin (R.Continue l i Labeled) e in
-      let o = b.o in
-      let f : found (T.ContinueTo l) (around o.kont) ≡ true = sym (any_found a B W steps (T.ContinueTo l) fs o.kont o.stacked) ∙ hit in
-      goes H B rec a W w o (begun (terminal (continue l i Labeled) t.label)) (task_is b _ (sym (some_is b.stands))) fs o.kont (E.Continued (Some l)) h σ given entries o.stacked (omega arith) (rw f) (omega arith)
-
-  pub on_continue_to_nowhere : (l i : ℕ) → t.terminal ≡ R.Continue l i Labeled → any (T.ContinueTo l) fs ≡ false
-      → Next H B rec a W w fs (F.Statement k d) steps fs x h σ given steps entries recorded
-  unfolding bind map_out
-  on_continue_to_nowhere l i e miss =
-      let b = begin (R.Continue l i Labeled) e in
-      let o = b.o in
-      let f : found (T.ContinueTo l) (around o.kont) ≡ false = sym (any_found a B W steps (T.ContinueTo l) fs o.kont o.stacked) ∙ miss in
-      stay H B rec a W w o (begun (terminal (continue l i Labeled) t.label)) (task_is b _ (sym (some_is b.stands))) fs o.kont n h σ given entries o.stacked (omega arith) (rw f) (omega arith)
-
-  pub on_implicit_break : (l i : ℕ) → t.terminal ≡ R.Break l i Implicit
-      → Next H B rec a W w fs (F.Statement k d) steps fs x h σ given steps entries recorded
-  unfolding bind map_out
-  on_implicit_break l i e =
-      let b = begin (R.Break l i Implicit) e in
-      let o = b.o in
-      stay H B rec a W w o (begun (terminal (break l i Implicit) t.label)) (task_is b _ (sym (some_is b.stands))) fs o.kont n h σ given entries o.stacked (omega arith) refl (omega arith)
-
-  pub on_implicit_continue : (l i : ℕ) → t.terminal ≡ R.Continue l i Implicit
-      → Next H B rec a W w fs (F.Statement k d) steps fs x h σ given steps entries recorded
-  unfolding bind map_out
-  on_implicit_continue l i e =
-      let b = begin (R.Continue l i Implicit) e in
-      let o = b.o in
-      stay H B rec a W w o (begun (terminal (continue l i Implicit) t.label)) (task_is b _ (sym (some_is b.stands))) fs o.kont n h σ given entries o.stacked (omega arith) refl (omega arith)
+  on_continue_implicit l i Implicit e free = implicit (R.Continue l i Implicit) (continue l i Implicit) e (λ b. sym (some_is b.stands)) (λ A s. refl)
+  on_continue_implicit l i Labeled e free = absurd (free _ refl)
+  on_continue_implicit l i Unlabeled e free = absurd (free _ refl)
 
   pub on_return : (p : Place) (i v : ℕ) → t.terminal ≡ R.Return p i → v ≡ look σ p.identifier
       → Next H B rec a W w fs (F.Statement k d) steps fs (E.Returned v) h σ given steps entries recorded
@@ -305,7 +281,7 @@ module _ {S : Type 0} (H : Meaning S) (B : ℕ) (rec : ℕ → Option ℕ) (a : 
 
   -- ---- a branch: the place's value is given, then tested
   module _ (q : Place) (b : Range) (i g v : ℕ) (eg : g ≡ look σ q.identifier) (h' : S) (eh : h' ≡ H.next h (test_of 0 g)) where
-    pub on_if_threw : (c : Option Range) → t.terminal ≡ R.If q b c i → Thrown v ≡ H.answer h (test_of 0 g)
+    pub on_if_threw : (c : Option Range) → t.terminal ≡ R.If q b c i → thrown v ≡ H.answer h (test_of 0 g)
         → Next H B rec a W w fs (F.Statement k d) steps fs (E.Threw v) h' σ g steps entries recorded
     unfolding bind map_out ask on_reply
     on_if_threw c e ea =
@@ -317,7 +293,7 @@ module _ {S : Type 0} (H : Meaning S) (B : ℕ) (rec : ℕ → Option ℕ) (a : 
         goes H B rec a W w o (begun (terminal (if q p.0 p.1 i) t.label)) (task_is s _ p.2) fs o.kont (E.Threw v) h' σ g entries o.stacked (omega arith)
         (rw (eg, eh', ← ea')) (omega arith)
 
-    pub on_if_yes : (m : Option ℕ) → m ≡ mark t.label → (c : Option Range) → t.terminal ≡ R.If q b c i → Value v ≡ H.answer h (test_of 0 g) → eqb v 0 ≡ false
+    pub on_if_yes : (m : Option ℕ) → m ≡ mark t.label → (c : Option Range) → t.terminal ≡ R.If q b c i → Ok v ≡ H.answer h (test_of 0 g) → eqb v 0 ≡ false
         → Next H B rec a W w fs (F.Statement k d) steps ((fs ++ F.EndsLabel m ∷ []) ++ F.Block b d ∷ []) x h' σ v steps entries recorded
     unfolding bind ask on_reply branch
     on_if_yes m em c e ea e0 =
@@ -334,7 +310,7 @@ module _ {S : Type 0} (H : Meaning S) (B : ℕ) (rec : ℕ → Option ℕ) (a : 
         (rw (em, eh', ← ea', e0))
         (omega arith)
 
-    pub on_if_no : (m : Option ℕ) → m ≡ mark t.label → (c : Range) → t.terminal ≡ R.If q b (Some c) i → Value v ≡ H.answer h (test_of 0 g) → eqb v 0 ≡ true
+    pub on_if_no : (m : Option ℕ) → m ≡ mark t.label → (c : Range) → t.terminal ≡ R.If q b (Some c) i → Ok v ≡ H.answer h (test_of 0 g) → eqb v 0 ≡ true
         → Next H B rec a W w fs (F.Statement k d) steps ((fs ++ F.EndsLabel m ∷ []) ++ F.Block c d ∷ []) x h' σ v steps entries recorded
     unfolding bind ask on_reply branch
     on_if_no m em c e ea e0 =
@@ -352,7 +328,7 @@ module _ {S : Type 0} (H : Meaning S) (B : ℕ) (rec : ℕ → Option ℕ) (a : 
         (rw (em, eh', ← ea', e0))
         (omega arith)
 
-    pub on_if_none : (m : Option ℕ) → m ≡ mark t.label → t.terminal ≡ R.If q b None i → Value v ≡ H.answer h (test_of 0 g) → eqb v 0 ≡ true
+    pub on_if_none : (m : Option ℕ) → m ≡ mark t.label → t.terminal ≡ R.If q b None i → Ok v ≡ H.answer h (test_of 0 g) → eqb v 0 ≡ true
         → Next H B rec a W w fs (F.Statement k d) steps (fs ++ F.EndsLabel m ∷ []) x h' σ v steps entries recorded
     unfolding bind ask on_reply branch
     on_if_none m em e ea e0 =

@@ -1,12 +1,14 @@
 -- How a turn of a run that goes on normally ends.
 -- It goes on normally with lighter tasks, or ends otherwise with lighter tasks, or has paid a step.
-use Rattle.std.proofs.Common.{◌≡◌, ℕ, suc, ◌+◌, ◌<◌, ◌≤◌, Bool, false, List, [], ◌∷◌, ◌++◌, length, Option, sym, ap, ◌∙◌, subst, add-one, arith, length-append}
+use Rattle.std.proofs.Common.{◌≡◌, ℕ, suc, ◌+◌, ◌<◌, ◌≤◌, Bool, false, List, [], ◌∷◌, ◌++◌, length, Option, vec_items, refl, sym, ap, ◌∙◌, subst, add-one, arith, length-append}
 use Rattle.hir.specs.Decode.{Slots}
 use Rattle.semantics.specs.Machine.{Meaning, Result, normal, done}
 use Rattle.run.specs.declared.frame.Exit.{Exit}
 use Rattle.run.specs.declared.frame.Exit.TheVariants as E
 use Rattle.run.specs.declared.frame.Frame.{Frame}
 use Rattle.run.specs.Frames.{Stacked, measure}
+use Rattle.run.specs.declared.memory.Memory.{Memory}
+use Rattle.run.specs.Holds.{Holds}
 use Rattle.run.specs.Tasks.{Task, around, act, resume, weight, weights, owing, owed}
 use Rattle.run.specs.Turn.{Leads, Next, Calm, result, state_of}
 use Rattle.run.proofs.Stack.{Opened, opened, closes, pays}
@@ -28,11 +30,6 @@ module _ {S : Type 0} {H : Meaning S} {B : ℕ} {rec : ℕ → Option ℕ} {a : 
       → Next H B rec a W w fs f steps gs y h' σ' given' steps' entries' recorded'
   next p = record { leads = p.0; less = p.1 }
 
-  -- the same frames, as pushing tells them
-  pub framed : {gs gs' : List Frame} → gs' ≡ gs → Next H B rec a W w fs f steps gs y h' σ' given' steps' entries' recorded'
-      → Next H B rec a W w fs f steps gs' y h' σ' given' steps' entries' recorded'
-  framed {gs} {gs'} e x = subst (λ (l : List Frame). Next H B rec a W w fs f steps l y h' σ' given' steps' entries' recorded') (sym e) x
-
   -- the same frame, as a match tells it
   pub renamed : {gs : List Frame} {g : Frame} → f ≡ g → Next H B rec a W w fs g steps gs y h' σ' given' steps' entries' recorded'
       → Next H B rec a W w fs f steps gs y h' σ' given' steps' entries' recorded'
@@ -50,9 +47,47 @@ pub leads_as : {S : Type 0} {H : Meaning S} {B : ℕ} {rec : ℕ → Option ℕ}
 leads_as {S = S} {H = H} {B = B} {rec = rec} {a = a} {W = W} {w = w} fs {x = x} {h = h} {σ = σ} {given = given} {steps = steps} {entries = entries} {recorded = recorded} e l =
     subst (λ (z : Frame). Leads H B rec a W w (fs ++ z ∷ []) x h σ given steps entries recorded) e l
 
--- one frame more
-pub more : {fs gs hs : List Frame} (f : Frame) → gs ≡ fs → hs ≡ gs ++ f ∷ [] → hs ≡ fs ++ f ∷ []
-more f e e' = e' ∙ ap (λ (l : List Frame). l ++ f ∷ []) e
+-- ---- what the memory's own methods leave
+-- the next turn, as the memory holds it
+pub held : {S : Type 0} {H : Meaning S} {B : ℕ} {rec : ℕ → Option ℕ} {a : Slots} {W : ℕ} {w : Result S} {fs : List Frame} {f : Frame} {steps : ℕ} {gs : List Frame} {y : Exit}
+    {h' : S} {σ' : List ℕ} {given' steps' entries' : ℕ} {recorded' : Bool} {m : Memory} → Holds gs y given' steps' entries' recorded' m
+    → Next H B rec a W w fs f steps gs y h' σ' given' steps' entries' recorded' → Next H B rec a W w fs f steps (vec_items m.frames) m.exit h' σ' m.given m.steps m.entries m.recorded
+held e x = rw (e.frames, e.exit, e.given, e.steps, e.entries, e.recorded) x
+
+-- frames on frames
+pub again : {fs : List Frame} {x : Exit} {given steps entries : ℕ} {recorded : Bool} {m n : Memory} (gs : List Frame) → Holds fs x given steps entries recorded m
+    → Holds (vec_items m.frames ++ gs) m.exit m.given m.steps m.entries m.recorded n → Holds (fs ++ gs) x given steps entries recorded n
+again gs p q =
+    record {
+      frames = q.frames ∙ ap (λ (l : List Frame). l ++ gs) p.frames;
+      exit = q.exit ∙ p.exit;
+      given = q.given ∙ p.given;
+      steps = q.steps ∙ p.steps;
+      entries = q.entries ∙ p.entries;
+      recorded = q.recorded ∙ p.recorded;
+    }
+
+-- another value is given
+pub regiven : {fs : List Frame} {x : Exit} {given steps entries : ℕ} {recorded : Bool} {m : Memory} (v : ℕ) → Holds fs x given steps entries recorded m
+    → Holds fs x v steps entries recorded (record m { given = v })
+regiven v p = record { frames = p.frames; exit = p.exit; given = refl; steps = p.steps; entries = p.entries; recorded = p.recorded }
+
+-- it ends otherwise
+pub exiting : {fs : List Frame} {x : Exit} {given steps entries : ℕ} {recorded : Bool} {m : Memory} (y : Exit) → Holds fs x given steps entries recorded m
+    → Holds fs y given steps entries recorded (record m { exit = y })
+exiting y p = record { frames = p.frames; exit = refl; given = p.given; steps = p.steps; entries = p.entries; recorded = p.recorded }
+
+pub again_round : {fs : List Frame} {x : Exit} {given steps entries : ℕ} {recorded : Bool} {m n : Memory} (gs hs : List Frame) → Holds fs x given steps entries recorded m
+    → Holds ((vec_items m.frames ++ gs) ++ hs) m.exit m.given m.steps m.entries m.recorded n → Holds ((fs ++ gs) ++ hs) x given steps entries recorded n
+again_round gs hs p q =
+    record {
+      frames = q.frames ∙ ap (λ (l : List Frame). (l ++ gs) ++ hs) p.frames;
+      exit = q.exit ∙ p.exit;
+      given = q.given ∙ p.given;
+      steps = q.steps ∙ p.steps;
+      entries = q.entries ∙ p.entries;
+      recorded = q.recorded ∙ p.recorded;
+    }
 
 module _ {S : Type 0} (H : Meaning S) (B : ℕ) (rec : ℕ → Option ℕ) (a : Slots) (W : ℕ) (w : Result S) where
   -- the top frame of a run that goes on normally

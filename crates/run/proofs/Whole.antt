@@ -20,6 +20,7 @@ use Rattle.run.specs.declared.frame.Frame.{Frame}
 use Rattle.run.specs.declared.frame.Frame.TheVariants as F
 use Rattle.run.specs.declared.memory.Memory.{Memory}
 use Rattle.run.specs.Frames.{Stacked, block_at}
+use Rattle.run.specs.Holds.{Holds}
 use Rattle.run.specs.Runs.{refusal, Answered, told}
 use Rattle.run.specs.Tasks.{Task, block, resume}
 use Rattle.run.specs.Turn.{Leads, Calm, result, state_of, whole_weight}
@@ -65,6 +66,11 @@ module _ {S : Type 0} {H : Meaning S} {B : ℕ} {rec : ℕ → Option ℕ} {a : 
   pub leads_with : {gs : List Frame} → fs ≡ gs → Leads H B rec a W w fs x h σ given steps entries recorded → Leads H B rec a W w gs x h σ given steps entries recorded
   leads_with e l = subst (λ (z : List Frame). Leads H B rec a W w z x h σ given steps entries recorded) e l
 
+  -- after the top frame was taken off
+  pub left : {gs hs : List Frame} {m : Memory} → fs ≡ gs → Holds hs x given steps entries recorded m → Leads H B rec a W w fs x h σ given steps entries recorded
+      → Leads H B rec a W w gs m.exit h σ m.given m.steps m.entries m.recorded
+  left e p l = rw (p.exit, p.given, p.steps, p.entries, p.recorded) (leads_with e l)
+
 -- ---- the answer
 outcome_is : {S : Type 0} (x : Exit) (s : State S) → outcome_of (result x s) ≡ told x
 outcome_is E.Normal s = refl
@@ -93,7 +99,7 @@ module _ {S : Type 0} (F : Function) (B : ℕ) (w : Result S) (m m' : Memory) (h
   pub large : length F.identifiers ≤ length σ → 1000000000 < B → r ≡ Err BudgetTooLarge → m' ≡ m → h' ≡ h → σ' ≡ σ → Answered (refusal F B σ) w m h σ r m' h' σ'
   large l b er em eh es = rw (le-ltb _ _ l, lt-ltb _ _ b) (er, em, eh, es)
 
-  pub finished : length F.identifiers ≤ length σ → B ≤ 1000000000 → (x : Exit) (given steps entries : ℕ) (recorded : Bool) (o : Outcome) → o ≡ told x
+  finished : length F.identifiers ≤ length σ → B ≤ 1000000000 → (x : Exit) (given steps entries : ℕ) (recorded : Bool) (o : Outcome) → o ≡ told x
       → w ≡ result x (state_of h' σ' given steps entries recorded)
       → r ≡ Ok (record { outcome = o; steps = steps; entries = entries; recorded = recorded }) → Answered (refusal F B σ) w m h σ r m' h' σ'
   finished l b x given steps entries recorded o eo ew er =
@@ -102,3 +108,10 @@ module _ {S : Type 0} (F : Function) (B : ℕ) (w : Result S) (m m' : Memory) (h
       let u : outcome_of w ≡ o = ap outcome_of ew ∙ outcome_is x s ∙ sym eo in
       let f = flag_is recorded in
       rw (le-ltb _ _ l, le-ltb _ _ b) (er ∙ rw (u, e, f), ap (λ (t : State S). t.host) (sym e), ap (λ (t : State S). t.store) (sym e))
+
+-- what was lent is what the machine left
+pub returned_with : {S T : Type 0} (state : T → S) (F : Function) (B : ℕ) (w : Result S) (m m' : Memory) (h : S) (σ : List ℕ) (y z : T) (σ' σ₁ : List ℕ) (r : Answer Ran RunFault) → y ≡ z → σ' ≡ σ₁
+    → length F.identifiers ≤ length σ → B ≤ 1000000000 → (x : Exit) (given steps entries : ℕ) (recorded : Bool) (o : Outcome) → o ≡ told x
+    → w ≡ result x (state_of (state z) σ₁ given steps entries recorded)
+    → r ≡ Ok (record { outcome = o; steps = steps; entries = entries; recorded = recorded }) → Answered (refusal F B σ) w m h σ r m' (state y) σ'
+returned_with state F B w m m' h σ y z σ' σ₁ r ey es l b x given steps entries recorded o eo ew er = rw (ey, es) (finished F B w m m' h (state z) σ σ₁ r l b x given steps entries recorded o eo ew er)

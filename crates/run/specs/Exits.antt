@@ -1,5 +1,8 @@
 -- How frames take what ends otherwise than normally, and which of them a jump means. Assumes nothing.
-use Rattle.std.specs.Prelude.{ℕ, Bool, true, false, ◌||◌, List, [], ◌∷◌, Some, None, Option}
+use Rattle.std.specs.Prelude.{ℕ, Bool, true, false, cond, List, Some, None, Option}
+use Rattle.std.specs.List.{list_any}
+use Rattle.hir.specs.declared.terminal.ReactiveTerminalTargetKind.{ReactiveTerminalTargetKind}
+use Rattle.hir.specs.declared.terminal.ReactiveTerminalTargetKind.TheVariants.{Implicit, Labeled, Unlabeled}
 use Rattle.semantics.specs.Machine.{Out, normal, broke, continued, returned, threw}
 use Rattle.semantics.specs.Exec.{has_label}
 use Rattle.run.specs.declared.frame.Exit.{Exit}
@@ -47,29 +50,31 @@ takes (F.Cases r d) = false
 takes (F.Catches p r d) = true
 
 -- ---- the targets of jumps
+-- the label that a jump names, if it names one; an implicit jump goes nowhere
+abbrev pub label_of : ℕ → ReactiveTerminalTargetKind → Option (Option ℕ)
+label_of l Implicit = None
+label_of l Labeled = Some (Some l)
+label_of l Unlabeled = Some None
+
 abbrev pub exit_to : Target → Exit
-exit_to T.Break = E.Broke None
-exit_to (T.BreakTo l) = E.Broke (Some l)
-exit_to T.Continue = E.Continued None
-exit_to (T.ContinueTo l) = E.Continued (Some l)
+exit_to (T.Break l) = E.Broke l
+exit_to (T.Continue l) = E.Continued l
 
 abbrev pub at_label : Target → Option ℕ → Bool
-at_label T.Break m = false
-at_label (T.BreakTo l) m = has_label l m
-at_label T.Continue m = false
-at_label (T.ContinueTo l) m = false
+at_label (T.Break None) m = false
+at_label (T.Break (Some l)) m = has_label l m
+at_label (T.Continue l) m = false
 
 abbrev pub at_loop : Target → Option ℕ → Bool
-at_loop T.Break m = true
-at_loop (T.BreakTo l) m = false
-at_loop T.Continue m = true
-at_loop (T.ContinueTo l) m = has_label l m
+at_loop (T.Break None) m = true
+at_loop (T.Break (Some l)) m = false
+at_loop (T.Continue None) m = true
+at_loop (T.Continue (Some l)) m = has_label l m
 
 abbrev pub at_switch : Target → Bool
-at_switch T.Break = true
-at_switch (T.BreakTo l) = false
-at_switch T.Continue = false
-at_switch (T.ContinueTo l) = false
+at_switch (T.Break None) = true
+at_switch (T.Break (Some l)) = false
+at_switch (T.Continue l) = false
 
 abbrev pub aims : Target → Frame → Bool
 aims t (F.Block r d) = false
@@ -93,5 +98,8 @@ aims t (F.Catches p r d) = false
 
 -- is the target among the frames?
 abbrev pub any : Target → List Frame → Bool
-any t [] = false
-any t (f ∷ fs) = aims t f || any t fs
+any t fs = list_any (aims t) fs
+
+-- what a jump makes of an exit
+abbrev pub jumped : Target → List Frame → Exit → Exit
+jumped t fs x = cond (any t fs) (exit_to t) x

@@ -6,9 +6,23 @@ use Rattle.hir.specs.Decode.{ValueSlots, Slots, value_of, top_value, instrs_of, 
 use Rattle.hir.specs.Tree.{Val, Instrs, Stmt, Cases, Block}
 use Rattle.run.specs.declared.frame.Loop.{Loop as Repeated}
 use Rattle.run.specs.declared.frame.Loop.TheVariants.{TestFirst, BlockFirst, Updating}
+use Rattle.run.specs.declared.frame.Selection.{Selection}
 use Rattle.run.specs.declared.frame.Frame.{Frame}
 use Rattle.run.specs.declared.frame.Frame.TheVariants as F
 use Rattle.run.specs.Tasks.{Loop, test_first, block_first, updating, Task, block, begun, value, assigns, instrs, after_left, after_test, leaves, ends_label, ends_loop, ends_switch, ends_round, starts, rounds, tests, selects, cases, catches, w_v, w_is, w_s, w_b, w_k, count, w_loop, w_tests, weights}
+
+-- the row behind the first n slots
+abbrev pub behind : Range → ℕ → Range
+behind r n = record { start = r.start + n; count = r.count - n }
+
+-- a switch's cases without the next one
+abbrev pub passed : Selection → Selection
+passed c = record { value = c.value; rest = behind c.rest 1; next = c.next + 1; default = c.default; all = c.all }
+
+abbrev pub test_of_loop : Repeated → ℕ
+test_of_loop (TestFirst v b) = v
+test_of_loop (BlockFirst b v) = v
+test_of_loop (Updating v u b) = v
 
 -- what stands in a slot or a row, at most d deep
 unfoldable pub value_at : ℕ → ValueSlots → ℕ → Option Val

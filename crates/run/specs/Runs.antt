@@ -4,8 +4,7 @@ use Rattle.fault.specs.declared.RunFault.{RunFault}
 use Rattle.fault.specs.declared.RunFault.TheVariants.{StoreTooShort, BudgetTooLarge}
 use Rattle.hir.specs.declared.tables.Tables.{Tables}
 use Rattle.hir.specs.Tree.{Function}
-use Rattle.host.specs.Asked.{Asked, Keeps}
-use Rattle.host.specs.declared.Reply.{Reply}
+use Rattle.host.specs.Asked.{Asked, Keeps, Reply}
 use Rattle.semantics.specs.declared.Outcome.{Outcome}
 use Rattle.semantics.specs.declared.Outcome.TheVariants.{Returned, Thrown, Ended, Spent}
 use Rattle.semantics.specs.declared.Ran.{Ran}

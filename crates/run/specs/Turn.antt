@@ -1,19 +1,19 @@
 -- What one turn of a run keeps. Assumes nothing.
-use Rattle.std.specs.Prelude.{◌≡◌, ℕ, ◌+◌, ◌<◌, ◌≤◌, Bool, false, List, [], ◌∷◌, ◌++◌, Some, None, vec_items, Option}
+use Rattle.std.specs.Prelude.{◌≡◌, ℕ, ◌+◌, ◌<◌, ◌≤◌, Bool, false, List, [], ◌∷◌, ◌++◌, Some, None, vec_items, vec_len, Option}
 use Rattle.hir.specs.declared.place.Place.{Place}
 use Rattle.hir.specs.Decode.{Slots}
 use Rattle.hir.specs.Held.{slots}
 use Rattle.hir.specs.Numbers.{flag_number}
 use Rattle.hir.specs.declared.tables.Tables.{Tables}
 use Rattle.hir.specs.Tables.{function_of}
-use Rattle.host.specs.Asked.{Asked, Keeps, asked}
-use Rattle.host.specs.declared.Reply.{Reply}
+use Rattle.host.specs.Asked.{Asked, Reply, Keeps, asked}
+use Rattle.host.specs.declared.Host.{Ghosts}
 use Rattle.semantics.specs.Machine.{Meaning, State, normal, broke, continued, returned, threw, Result, done, spent, put}
 use Rattle.semantics.specs.Exec.{records_of}
 use Rattle.run.specs.declared.frame.Exit.{Exit}
 use Rattle.run.specs.declared.frame.Exit.TheVariants as E
 use Rattle.run.specs.declared.frame.Frame.{Frame}
-use Rattle.run.specs.declared.memory.Memory.{Memory}
+use Rattle.run.specs.declared.machine.Machine.{Machine}
 use Rattle.run.specs.Frames.{Stacked, measure}
 use Rattle.run.specs.Tasks.{Task, weights, w_b, resume, owed}
 
@@ -61,21 +61,40 @@ pub record Next {S : Type 0} (H : Meaning S) (B : ℕ) (rec : ℕ → Option ℕ
 abbrev pub whole_weight : Tables → ℕ
 whole_weight T = w_b (function_of T).body
 
-module _ {S : Type 0} (answer : S → Asked → Reply) (next : S → Asked → S) (keeps : Keeps answer next) (T : Tables) (B : ℕ) where
-  abbrev pub At : Result S → Memory → List Frame → List ℕ → S → Type 0
-  At w m fs σ h =
-      Leads (host_of answer next keeps) B (records_of (function_of T).scopes) (slots T.arena) (whole_weight T) w fs m.exit h σ m.given m.steps m.entries m.recorded
+abbrev pub meaning : {T : Type 0} (H : Ghosts T) → Meaning H.State
+meaning H = host_of H.answer H.next H.keeps
+
+-- the references keep their names, and what is only read stays
+pub record Same {T : Type 0} (m n : Machine T) : Type 0 where
+  pub memory : n.memory.ghost_name ≡ m.memory.ghost_name
+  pub host : n.host.ghost_name ≡ m.host.ghost_name
+  pub store : n.store.ghost_name ≡ m.store.ghost_name
+  pub tables : n.tables ≡ m.tables
+  pub budget : n.budget ≡ m.budget
+
+module _ {T : Type 0} (H : Ghosts T) where
+  abbrev pub At : Result H.State → Machine T → List Frame → Type 0
+  At w m fs =
+      Leads (meaning H) m.budget (records_of (function_of m.tables.now).scopes) (slots m.tables.now.arena) (whole_weight m.tables.now) w fs
+      m.memory.now.exit (H.state m.host.now) m.store.now m.memory.now.given m.memory.now.steps m.memory.now.entries m.memory.now.recorded
 
   -- the frame f was taken off the stack
-  abbrev pub Ready : Memory → Frame → List ℕ → S → Type 0
-  Ready m f σ h = (w : Result S) × At w m (vec_items m.frames ++ f ∷ []) σ h
+  abbrev pub Ready : Machine T → Frame → Type 0
+  Ready m f = (w : Result H.State) × At w m (vec_items m.memory.now.frames ++ f ∷ [])
+
+  -- what is before it ended normally, and it finds room for its parts
+  pub record Due (m : Machine T) (f : Frame) : Type 0 where
+    pub normal : m.memory.now.exit ≡ E.Normal
+    pub room : vec_len m.memory.now.frames ≤ 1000
+    pub ready : Ready m f
 
   -- the run goes on, and nearer to its end
-  abbrev pub Turns : Memory → Frame → List ℕ → S → Memory → List ℕ → S → Type 0
-  Turns m f σ h m' σ' h' =
-      (w : Result S) → At w m (vec_items m.frames ++ f ∷ []) σ h
-      → Next (host_of answer next keeps) B (records_of (function_of T).scopes) (slots T.arena) (whole_weight T) w (vec_items m.frames) f m.steps
-      (vec_items m'.frames) m'.exit h' σ' m'.given m'.steps m'.entries m'.recorded
+  abbrev pub Turns : Machine T → Frame → Machine T → Type 0
+  Turns m f n =
+      (w : Result H.State) → At w m (vec_items m.memory.now.frames ++ f ∷ [])
+      → Next (meaning H) m.budget (records_of (function_of m.tables.now).scopes) (slots m.tables.now.arena) (whole_weight m.tables.now) w
+      (vec_items m.memory.now.frames) f m.memory.now.steps
+      (vec_items n.memory.now.frames) n.memory.now.exit (H.state n.host.now) n.store.now n.memory.now.given n.memory.now.steps n.memory.now.entries n.memory.now.recorded
 
 -- an optional place gets a value
 abbrev pub kept : Option Place → List ℕ → ℕ → List ℕ

@@ -1,19 +1,16 @@
 // The turns of what ends a statement, and of what passes over frames.
-ghost use Rattle.std.specs.Prelude.{◌≡◌, ◌+◌, ◌<◌, ◌≤◌, Some, vec_len, vec_capacity, ◌≢◌};
-ghost use Rattle.hir.specs.Options.{nth};
+ghost use Rattle.std.specs.Prelude.{◌≡◌, ◌≤◌, ◌≢◌, vec_len};
 ghost use Rattle.run.specs.declared.frame.Exit.TheVariants.{Normal};
-ghost use Rattle.run.specs.Turn.{Ready, Turns};
+ghost use Rattle.run.specs.Turn.{Ready, Same, Turns};
 ghost use Rattle.run.specs.declared.frame.Frame.TheVariants.{Catches as CatchesFrame};
 ghost use Rattle.run.specs.Exits.{onto};
 ghost use Rattle.semantics.specs.Exec.{end_label, end_loop, end_round};
 
 use crate::frame::{Exit, Frame};
-use crate::memory::Memory;
+use crate::machine::Machine;
 use crate::store::assign;
-use crate::terminals::has_label;
 use hir::place::Place;
 use hir::range::Range;
-use hir::tables::Tables;
 use host::Host;
 
 // What the end of a labeled statement makes of an exit.
@@ -21,22 +18,8 @@ fn end_label(label: Option<u32>, exit: Exit) -> Exit
     ensures { result ≡ onto (end_label label) exit }
 {
     match exit {
-        Exit::Normal => Exit::Normal,
-        Exit::Broke(to) => match to {
-            None => Exit::Broke(None),
-            Some(l) => if has_label(l, label) {
-                Exit::Normal
-            } else {
-                Exit::Broke(Some(l))
-            },
-        },
-        Exit::Continued(to) => match to {
-            None => Exit::Continued(None),
-            Some(l) => Exit::Continued(Some(l)),
-        },
-        Exit::Returned(v) => Exit::Returned(v),
-        Exit::Threw(v) => Exit::Threw(v),
-        Exit::Spent => Exit::Spent,
+        Exit::Broke(Some(to)) if label == Some(to) => Exit::Normal,
+        _ => exit,
     }
 }
 
@@ -45,22 +28,8 @@ fn end_loop(label: Option<u32>, exit: Exit) -> Exit
     ensures { result ≡ onto (end_loop label) exit }
 {
     match exit {
-        Exit::Normal => Exit::Normal,
-        Exit::Broke(to) => match to {
-            None => Exit::Normal,
-            Some(l) => if has_label(l, label) {
-                Exit::Normal
-            } else {
-                Exit::Broke(Some(l))
-            },
-        },
-        Exit::Continued(to) => match to {
-            None => Exit::Continued(None),
-            Some(l) => Exit::Continued(Some(l)),
-        },
-        Exit::Returned(v) => Exit::Returned(v),
-        Exit::Threw(v) => Exit::Threw(v),
-        Exit::Spent => Exit::Spent,
+        Exit::Broke(None) => Exit::Normal,
+        _ => end_label(label, exit),
     }
 }
 
@@ -69,84 +38,51 @@ fn end_round(label: Option<u32>, exit: Exit) -> Exit
     ensures { result ≡ onto (end_round label) exit }
 {
     match exit {
-        Exit::Normal => Exit::Normal,
-        Exit::Broke(to) => match to {
-            None => Exit::Broke(None),
-            Some(l) => Exit::Broke(Some(l)),
-        },
-        Exit::Continued(to) => match to {
-            None => Exit::Normal,
-            Some(l) => if has_label(l, label) {
-                Exit::Normal
-            } else {
-                Exit::Continued(Some(l))
-            },
-        },
-        Exit::Returned(v) => Exit::Returned(v),
-        Exit::Threw(v) => Exit::Threw(v),
-        Exit::Spent => Exit::Spent,
+        Exit::Continued(None) => Exit::Normal,
+        Exit::Continued(Some(to)) if label == Some(to) => Exit::Normal,
+        _ => exit,
     }
 }
 
-impl Memory {
-    pub(crate) fn on_catches<H: Host>(
-        &mut self,
-        tables: &Tables,
-        host: &mut H,
-        store: &mut [u32],
-        budget: u32,
-        binding: Option<Place>,
-        handler: Range,
-        depth: u32,
-    )
-        requires room { vec_len self.old.frames ≤ 1000 }
-        requires ready { Ready H.answer H.next H.keeps tables.now budget self.old (CatchesFrame binding handler depth) store.old (H.state host.old) }
-        ensures { Turns H.answer H.next H.keeps tables.now budget self.old (CatchesFrame binding handler depth) store.old (H.state host.old) self.new store.new (H.state host.new) }
+impl<'a, H: Host> Machine<'a, H> {
+    fn on_catches(&mut self, binding: Option<Place>, handler: Range, depth: u32)
+        requires room { vec_len self.old.memory.now.frames ≤ 1000 }
+        requires ready { Ready H.Host self.old (CatchesFrame binding handler depth) }
+        ensures same { Same self.old self.new }
+        ensures turns { Turns H.Host self.old (CatchesFrame binding handler depth) self.new }
     {
-        match self.exit {
-            Exit::Threw(v) => {
-                self.given = v;
-                self.exit = Exit::Normal;
-                assign(store, binding, v);
-                self.frames.push_reserved(Frame::Block {
-                    rest: handler,
-                    depth,
-                });
-            }
-            _ => {}
+        if let Exit::Threw(v) = self.memory.exit {
+            self.memory.given = v;
+            self.memory.exit = Exit::Normal;
+            assign(self.store, binding, v);
+            self.memory.push(Frame::Block {
+                rest: handler,
+                depth,
+            });
         }
     }
 
-    pub(crate) fn on_abrupt<H: Host>(
-        &mut self,
-        tables: &Tables,
-        host: &mut H,
-        store: &mut [u32],
-        budget: u32,
-        frame: Frame,
-    )
-        requires abrupt { self.old.exit ≢ Normal }
-        requires ready { Ready H.answer H.next H.keeps tables.now budget self.old (frame) store.old (H.state host.old) }
-        ensures { Turns H.answer H.next H.keeps tables.now budget self.old (frame) store.old (H.state host.old) self.new store.new (H.state host.new) }
+    pub(crate) fn on_abrupt(&mut self, frame: Frame)
+        requires abrupt { self.old.memory.now.exit ≢ Normal }
+        requires ready { Ready H.Host self.old frame }
+        ensures same { Same self.old self.new }
+        ensures turns { Turns H.Host self.old frame self.new }
     {
         match frame {
             Frame::EndsLabel { label } => {
-                self.exit = end_label(label, self.exit);
+                self.memory.exit = end_label(label, self.memory.exit);
             }
-            Frame::EndsLoop { label } => {
-                self.exit = end_loop(label, self.exit);
-            }
-            Frame::EndsSwitch { label } => {
-                self.exit = end_loop(label, self.exit);
+            Frame::EndsLoop { label } | Frame::EndsSwitch { label } => {
+                self.memory.exit = end_loop(label, self.memory.exit);
             }
             Frame::EndsRound { label } => {
-                self.exit = end_round(label, self.exit);
+                self.memory.exit = end_round(label, self.memory.exit);
             }
             Frame::Catches {
                 binding,
                 handler,
                 depth,
-            } => { self.on_catches(tables, host, store, budget, binding, handler, depth) }
+            } => self.on_catches(binding, handler, depth),
             _ => {}
         }
     }

@@ -1,8 +1,11 @@
 // What is left of a run, in numbers: slots and rows of the tables, labels, and how deep what stands there may be.
+ghost use Rattle.std.specs.Prelude.{◌≡◌, ◌+◌, ◌^◌, ◌<◌};
+ghost use Rattle.run.specs.Frames.{passed, test_of_loop};
+
 use hir::place::Place;
 use hir::range::Range;
 
-// How a part of a function ended.
+// How a part of a function ended. A Result would hold the same ends, and the run keeps one of them between two turns.
 #[derive(Clone, Copy)]
 pub enum Exit {
     Normal,
@@ -13,7 +16,7 @@ pub enum Exit {
     Spent,
 }
 
-// A loop by the order of its parts.
+// A loop by the order of its parts. A loop that has no update stays apart from one that may have, as in the definition of a run.
 #[derive(Clone, Copy)]
 pub enum Loop {
     TestFirst {
@@ -31,7 +34,20 @@ pub enum Loop {
     },
 }
 
+impl Loop {
+    pub(crate) fn test(self) -> u32
+        ensures { result ≡ test_of_loop self }
+    {
+        match self {
+            Loop::TestFirst { test, .. }
+            | Loop::BlockFirst { test, .. }
+            | Loop::Updating { test, .. } => test,
+        }
+    }
+}
+
 // The cases of a switch: those still to ask for, the place of the next one, the first without a test, and all of them.
+// The place follows from the two rows; it stands there as in the definition of a run.
 #[derive(Clone, Copy)]
 pub struct Selection {
     pub value: u32,
@@ -41,7 +57,24 @@ pub struct Selection {
     pub all: Range,
 }
 
-// A task of the run. A depth is that of the blocks, or of the values, that may be inside.
+impl Selection {
+    // Without its next case.
+    pub(crate) fn passed(self) -> Selection
+        requires some { 0 < self.rest.count }
+        requires fits { self.rest.start + 1 < 2 ^ 32 }
+        requires next { self.next + 1 < 2 ^ 32 }
+        ensures { result ≡ passed self }
+    {
+        Selection {
+            rest: self.rest.behind(1),
+            next: self.next + 1,
+            ..self
+        }
+    }
+}
+
+// A task of the run. A depth is that of the blocks, or of the values, that may be inside; a statement's value begins with 64, as in
+// the definition. Its parts are handed on one by one, since the clauses of a turn name the frame by them.
 #[derive(Clone, Copy)]
 pub enum Frame {
     Block {
@@ -63,6 +96,7 @@ pub enum Frame {
         rest: Range,
         depth: u32,
     },
+    // The payload is a number, as a test's question takes it; a test that is no operator's has 0.
     AfterLeft {
         payload: u32,
         right: u32,
@@ -88,6 +122,7 @@ pub enum Frame {
     EndsRound {
         label: Option<u32>,
     },
+    // The steps of a loop hold the same; a tag beside it would be matched as they are.
     Starts {
         repeated: Loop,
         label: Option<u32>,
@@ -119,11 +154,22 @@ pub enum Frame {
     },
 }
 
-// What a jump looks for around it.
+// What a jump looks for around it: a statement to leave, or a loop to go on with, by its label where it names one.
 #[derive(Clone, Copy)]
 pub enum Target {
-    Break,
-    BreakTo(u32),
-    Continue,
-    ContinueTo(u32),
+    Break(Option<u32>),
+    Continue(Option<u32>),
+}
+
+impl From<Target> for Exit {
+    ghost use Rattle.run.specs.Exits.{exit_to};
+
+    ghost from_gives = { λ target exit. exit ≡ exit_to target };
+
+    fn from(target: Target) -> Exit {
+        match target {
+            Target::Break(label) => Exit::Broke(label),
+            Target::Continue(label) => Exit::Continued(label),
+        }
+    }
 }

@@ -4,11 +4,12 @@
 mod ask;
 mod ends;
 pub mod frame;
+mod jumps;
 mod loops;
+mod machine;
 pub mod memory;
 mod operands;
 mod operations;
-mod reads;
 pub mod run;
 mod sequences;
 mod statements;

@@ -1,20 +1,14 @@
 // What an instruction's own value does: it gives its operand, declares, stores, or asks the host.
-ghost use Rattle.std.specs.Prelude.{◌≡◌, ℕ, ◌+◌, ◌<◌, ◌≤◌, Bool, ◌∷◌, length, Some, vec_len, vec_capacity};
-ghost use Rattle.hir.specs.Decode.{op_of};
-ghost use Rattle.hir.specs.Held.{value_slots};
-ghost use Rattle.hir.specs.Tree.{Op};
+ghost use Rattle.std.specs.Prelude.{◌≡◌, ℕ, ◌+◌, ◌≤◌, ◌∷◌, drop, length, vec_len, vec_capacity};
 ghost use Rattle.semantics.specs.Exec.{class};
-ghost use Rattle.run.specs.Operands.{between, reads, shown};
-ghost use Rattle.run.specs.Operations.{named, Does, Asks, AsksAll, AsksEach};
+ghost use Rattle.run.specs.Operands.{reads};
+ghost use Rattle.run.specs.Operations.{named, about, Does, AsksAll, AsksEach};
 
-use crate::frame::Exit;
 use crate::operands::{last_of, read_all, store_all};
-use crate::reads::place_at;
 use crate::store::write;
-use hir::range::Range;
-use hir::tables::Tables;
+use hir::place::Place;
 use hir::value::InstructionValue;
-use host::{Host, Question, Reply};
+use host::{Host, Question, Thrown};
 
 #[derive(Clone, Copy)]
 pub enum Class {
@@ -25,228 +19,135 @@ pub enum Class {
     Asks,
 }
 
-// How an instruction's value ended, and the value that was given last.
-#[derive(Clone, Copy)]
-pub struct Did {
-    pub exit: Exit,
-    pub given: u32,
-}
+impl From<u32> for Class {
+    ghost from_gives = { λ kind c. named c ≡ class kind };
 
-fn class_of(kind: u32) -> Class
-    ensures { named result ≡ class kind }
-{
-    if kind == 0 || kind == 1 {
-        Class::Loads
-    } else if kind == 2 || kind == 3 {
-        Class::Declares
-    } else if kind == 4 || kind == 5 {
-        Class::Stores
-    } else if kind == 6 {
-        Class::AsksEach
-    } else if kind == 37 || kind == 38 {
-        Class::AsksEach
-    } else {
-        Class::Asks
+    #[tactic(auto, unfolding(semantics::specs::Exec::class))]
+    fn from(kind: u32) -> Class {
+        match kind {
+            0 | 1 => Class::Loads,
+            2 | 3 => Class::Declares,
+            4 | 5 => Class::Stores,
+            6 | 37 | 38 => Class::AsksEach,
+            _ => Class::Asks,
+        }
     }
 }
 
+// The room is asked for, here and above: the values are lent out of a memory, and what it promises of them is not theirs.
 // Lays the operands' values behind the value that was given last.
-fn lay(tables: &Tables, store: &[u32], operands: Range, values: &mut Vec<u32>, given: u32)
-    requires within { operands.start + operands.count ≤ vec_len tables.now.arena.inner.places }
-    requires room { 4097 ≤ vec_capacity values.old }
-    ensures items { values.new.items ≡ given ∷ reads store.now (between tables.now.arena.inner.places.items operands.start (operands.start + operands.count)) }
+fn lay(store: &[u32], operands: &[Place], values: &mut Vec<u32>, given: u32)
+    requires { length operands.now + 1 ≤ vec_capacity values.old }
+    ensures items { values.new.items ≡ given ∷ reads store.now operands.now }
     ensures capacity { vec_capacity values.new ≡ vec_capacity values.old }
 {
     values.clear();
     values.push_reserved(given);
-    read_all(
-        tables,
-        store,
-        operands.start,
-        operands.start + operands.count,
-        values,
-    );
+    read_all(store, operands, values);
 }
 
-// Asks at position 0. The host is shown the operands' values, which lie behind the first.
-fn ask_first<H: Host>(host: &mut H, values: &[u32], kind: u32, payload: u32, given: u32) -> Did
+// What a host is shown of the values that lie there: the part behind the first, which is this question's alone.
+fn shown(values: &[u32]) -> &[u32]
     requires { 1 ≤ length values.now }
-    ensures { Asks H.answer H.next H.keeps kind payload (shown values.now) given (H.state host.old) (H.state host.new) result }
+    ensures { result.now ≡ drop 1 values.now }
+{
+    &values[1..]
+}
+
+// Asks at a position. The host is shown the operands' values.
+fn ask<H: Host>(
+    host: &mut H,
+    operation: InstructionValue,
+    position: u32,
+    values: &[u32],
+) -> Result<u32, Thrown>
+    ensures answers { result ≡ H.answer (H.state host.old) (about operation position values.now) }
+    ensures moves { H.state host.new ≡ H.next (H.state host.old) (about operation position values.now) }
 {
     let question = Question {
-        kind,
-        payload,
-        position: 0,
+        kind: operation.kind,
+        payload: operation.payload,
+        position,
     };
-    match host.ask(question, &values[1..]) {
-        Reply::Value(v) => Did {
-            exit: Exit::Normal,
-            given: v,
-        },
-        Reply::Thrown(v) => Did {
-            exit: Exit::Threw(v),
-            given,
-        },
-    }
+    host.ask(question, values)
 }
 
-// Asks for each written place, from position 1 on, and stores there.
+// Asks for each written place, from position 1 on, and stores there. The last answer is given.
 fn ask_each<H: Host>(
-    tables: &Tables,
     host: &mut H,
     store: &mut [u32],
+    operation: InstructionValue,
     values: &[u32],
-    kind: u32,
-    payload: u32,
-    from: u32,
-    to: u32,
-    given: u32,
-) -> Did
-    requires within { to ≤ vec_len tables.now.arena.inner.places }
-    requires some { 1 ≤ length values.now }
-    ensures { AsksEach H.answer H.next H.keeps kind payload (shown values.now) (between tables.now.arena.inner.places.items from to) given (H.state host.old) store.old (H.state host.new) store.new result }
+    written: &[Place],
+    given: &mut u32,
+) -> Result<(), Thrown>
+    requires { length written.now ≤ 4096 }
+    ensures { AsksEach H.Host operation values.now written.now given.old (H.state host.old) store.old result given.new (H.state host.new) store.new }
 {
-    let mut given = given;
-    for at in from..to {
-        let place = place_at(tables, at);
-        let question = Question {
-            kind,
-            payload,
-            position: at - from + 1,
-        };
-        match host.ask(question, &values[1..]) {
-            Reply::Value(v) => {
-                given = v;
-                write(store, place.identifier, v);
-            }
-            Reply::Thrown(v) => {
-                return Did {
-                    exit: Exit::Threw(v),
-                    given,
-                };
-            }
-        }
+    for (at, place) in written.iter().enumerate() {
+        *given = ask(host, operation, at as u32 + 1, values)?;
+        write(store, place.identifier, *given);
     }
-    Did {
-        exit: Exit::Normal,
-        given,
-    }
+    Ok(())
 }
 
-// Asks at position 0, and then for each written place.
+// Asks at position 0, and then for each written place. The first answer is given.
 fn ask_all<H: Host>(
-    tables: &Tables,
     host: &mut H,
     store: &mut [u32],
-    values: &[u32],
     operation: InstructionValue,
-    given: u32,
-) -> Did
-    requires within { operation.written.start + operation.written.count ≤ vec_len tables.now.arena.inner.places }
-    requires some { 1 ≤ length values.now }
-    ensures { AsksAll H.answer H.next H.keeps operation.kind operation.payload (shown values.now) (between tables.now.arena.inner.places.items operation.written.start (operation.written.start + operation.written.count)) given (H.state host.old) store.old (H.state host.new) store.new result }
+    values: &[u32],
+    written: &[Place],
+    given: &mut u32,
+) -> Result<(), Thrown>
+    requires { length written.now ≤ 4096 }
+    ensures { AsksAll H.Host operation values.now written.now given.old (H.state host.old) store.old result given.new (H.state host.new) store.new }
 {
-    let kind = operation.kind;
-    let payload = operation.payload;
-    let from = operation.written.start;
-    let to = from + operation.written.count;
-    let first = ask_first(host, values, kind, payload, given);
-    match first.exit {
-        Exit::Normal => {
-            let each = ask_each(
-                tables,
-                host,
-                store,
-                values,
-                kind,
-                payload,
-                from,
-                to,
-                first.given,
-            );
-            match each.exit {
-                Exit::Normal => first,
-                _ => each,
-            }
-        }
-        _ => first,
-    }
+    let first = ask(host, operation, 0, values)?;
+    *given = first;
+    ask_each(host, store, operation, values, written, given)?;
+    *given = first;
+    Ok(())
 }
 
+// No method of Machine, here and in what it calls: the values are lent out of its memory while the host and the store change.
 pub(crate) fn operate<H: Host>(
-    tables: &Tables,
     host: &mut H,
     store: &mut [u32],
-    values: &mut Vec<u32>,
     operation: InstructionValue,
-    given: u32,
-) -> Did
-    requires written { operation.written.start + operation.written.count ≤ vec_len tables.now.arena.inner.places }
-    requires operands { operation.operands.start + operation.operands.count ≤ vec_len tables.now.arena.inner.places }
+    operands: &[Place],
+    written: &[Place],
+    values: &mut Vec<u32>,
+    given: &mut u32,
+) -> Result<(), Thrown>
+    requires written { length written.now ≤ 4096 }
+    requires operands { length operands.now ≤ 4096 }
     requires room { 4097 ≤ vec_capacity values.old }
-    ensures does { (o : Op) → op_of (value_slots tables.now.arena.inner) operation ≡ Some o → Does H.answer H.next H.keeps o given (H.state host.old) store.old (H.state host.new) store.new result }
+    ensures does { Does H.Host operation operands.now written.now given.old (H.state host.old) store.old result given.new (H.state host.new) store.new }
     ensures capacity { vec_capacity values.new ≡ vec_capacity values.old }
 {
-    let operands = operation.operands;
-    let written = operation.written;
-    match class_of(operation.kind) {
+    match Class::from(operation.kind) {
         Class::Loads => {
-            let given = last_of(
-                tables,
-                store,
-                operands.start,
-                operands.start + operands.count,
-            );
-            Did {
-                exit: Exit::Normal,
-                given,
-            }
+            *given = last_of(store, operands);
         }
         Class::Declares => {
-            store_all(
-                tables,
-                store,
-                written.start,
-                written.start + written.count,
-                0,
-            );
-            Did {
-                exit: Exit::Normal,
-                given: 0,
-            }
+            store_all(store, written, 0);
+            *given = 0;
         }
         Class::Stores => {
-            let given = last_of(
-                tables,
-                store,
-                operands.start,
-                operands.start + operands.count,
-            );
-            store_all(
-                tables,
-                store,
-                written.start,
-                written.start + written.count,
-                given,
-            );
-            Did {
-                exit: Exit::Normal,
-                given,
-            }
+            *given = last_of(store, operands);
+            store_all(store, written, *given);
         }
         Class::AsksEach => {
-            lay(tables, store, operands, values, given);
-            ask_all(tables, host, store, values.as_slice(), operation, given)
+            lay(store, operands, values, *given);
+            let values = shown(values.as_slice());
+            return ask_all(host, store, operation, values, written, given);
         }
         Class::Asks => {
-            lay(tables, store, operands, values, given);
-            ask_first(
-                host,
-                values.as_slice(),
-                operation.kind,
-                operation.payload,
-                given,
-            )
+            lay(store, operands, values, *given);
+            let values = shown(values.as_slice());
+            *given = ask(host, operation, 0, values)?;
         }
     }
+    Ok(())
 }

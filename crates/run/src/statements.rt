@@ -1,17 +1,15 @@
 // The turns of blocks and of their statements but terminals.
-ghost use Rattle.std.specs.Prelude.{◌≡◌, ◌+◌, ◌<◌, ◌≤◌, Some, vec_len, vec_capacity};
+ghost use Rattle.std.specs.Prelude.{◌≡◌, Some};
 ghost use Rattle.hir.specs.Options.{nth};
 ghost use Rattle.run.specs.declared.frame.Exit.TheVariants.{Normal};
-ghost use Rattle.run.specs.Turn.{Ready, Turns};
+ghost use Rattle.run.specs.Turn.{Due, Ready, Same, Turns};
 ghost use Rattle.hir.specs.declared.statement.ReactiveStatement.TheVariants.{Scope as ScopeStatement};
 ghost use Rattle.run.specs.declared.frame.Frame.TheVariants.{Block as BlockFrame, Statement as StatementFrame, Leaves as LeavesFrame};
 ghost use Rattle.hir.specs.Tables.{function_of};
 ghost use Rattle.semantics.specs.Exec.{records_of};
 
 use crate::frame::{Exit, Frame};
-use crate::memory::Memory;
-use crate::reads::{entry_at, statement_at};
-use crate::store::read;
+use crate::machine::Machine;
 use hir::range::Range;
 use hir::statement::{ReactiveScopeBlock, ReactiveStatement};
 use hir::tables::Tables;
@@ -21,83 +19,49 @@ use host::Host;
 fn record_of(tables: &Tables, scope: u32) -> Option<u32>
     ensures { result ≡ records_of (function_of tables.now).scopes scope }
 {
-    let at = scope as usize;
-    if at < tables.environment.scopes.len() {
-        match tables.environment.scopes[at].early {
-            Some(record) => Some(record.value),
-            None => None,
-        }
-    } else {
-        None
-    }
+    let scope = tables.environment.scopes.vec.get(scope as usize)?;
+    let record = scope.early?;
+    Some(record.value)
 }
 
-impl Memory {
-    pub(crate) fn on_block<H: Host>(
-        &mut self,
-        tables: &Tables,
-        host: &mut H,
-        store: &mut [u32],
-        budget: u32,
-        rest: Range,
-        depth: u32,
-    )
-        requires normal { self.old.exit ≡ Normal }
-        requires room { vec_len self.old.frames ≤ 1000 }
-        requires ready { Ready H.answer H.next H.keeps tables.now budget self.old (BlockFrame rest depth) store.old (H.state host.old) }
-        ensures { Turns H.answer H.next H.keeps tables.now budget self.old (BlockFrame rest depth) store.old (H.state host.old) self.new store.new (H.state host.new) }
+impl<'a, H: Host> Machine<'a, H> {
+    pub(crate) fn on_block(&mut self, rest: Range, depth: u32)
+        requires { Due H.Host self.old (BlockFrame rest depth) }
+        ensures same { Same self.old self.new }
+        ensures turns { Turns H.Host self.old (BlockFrame rest depth) self.new }
     {
         if rest.count == 0 {
             return;
         }
-        let slot = entry_at(tables, rest.start);
-        if self.steps >= budget {
-            self.exit = Exit::Spent;
+        let slot = self.tables.arena.entries.table.at(rest.start);
+        if !self.memory.pay(self.budget) {
             return;
         }
-        self.steps += 1;
-        let rest = Range {
-            start: rest.start + 1,
-            count: rest.count - 1,
-        };
-        self.frames.push_reserved(Frame::Block { rest, depth });
-        self.frames.push_reserved(Frame::Statement {
+        let rest = rest.behind(1);
+        self.memory.push(Frame::Block { rest, depth });
+        self.memory.push(Frame::Statement {
             slot,
             depth: depth - 1,
         });
     }
 
-    pub(crate) fn on_statement<H: Host>(
-        &mut self,
-        tables: &Tables,
-        host: &mut H,
-        store: &mut [u32],
-        budget: u32,
-        slot: u32,
-        depth: u32,
-    )
-        requires normal { self.old.exit ≡ Normal }
-        requires room { vec_len self.old.frames ≤ 1000 }
-        requires ready { Ready H.answer H.next H.keeps tables.now budget self.old (StatementFrame slot depth) store.old (H.state host.old) }
-        ensures { Turns H.answer H.next H.keeps tables.now budget self.old (StatementFrame slot depth) store.old (H.state host.old) self.new store.new (H.state host.new) }
+    pub(crate) fn on_statement(&mut self, slot: u32, depth: u32)
+        requires { Due H.Host self.old (StatementFrame slot depth) }
+        ensures same { Same self.old self.new }
+        ensures turns { Turns H.Host self.old (StatementFrame slot depth) self.new }
     {
-        match statement_at(tables, slot) {
+        match self.tables.arena.statements.at(slot) {
             ReactiveStatement::Instruction(i) => {
-                self.frames
-                    .push_reserved(Frame::Assigns { place: i.lvalue });
-                self.frames.push_reserved(Frame::Value {
+                self.memory.push(Frame::Assigns { place: i.lvalue });
+                self.memory.push(Frame::Value {
                     slot: i.value,
                     depth: 64,
                 });
             }
-            ReactiveStatement::Terminal(t) => self.on_terminal(
-                tables, host, store, budget, slot, depth, t,
-            ),
-            ReactiveStatement::Scope(b) => self.on_scope(
-                tables, host, store, budget, slot, depth, b,
-            ),
+            ReactiveStatement::Terminal(t) => self.on_terminal(slot, depth, t),
+            ReactiveStatement::Scope(b) => self.on_scope(slot, depth, b),
             ReactiveStatement::PrunedScope(b) => {
-                self.frames.push_reserved(Frame::Block {
+                self.memory.push(Frame::Block {
                     rest: b.instructions,
                     depth,
                 });
@@ -105,63 +69,32 @@ impl Memory {
         }
     }
 
-    pub(crate) fn on_scope<H: Host>(
-        &mut self,
-        tables: &Tables,
-        host: &mut H,
-        store: &mut [u32],
-        budget: u32,
-        slot: u32,
-        depth: u32,
-        block: ReactiveScopeBlock,
-    )
-        requires normal { self.old.exit ≡ Normal }
-        requires room { vec_len self.old.frames ≤ 1000 }
-        requires here { nth tables.now.arena.statements.items slot ≡ Some (ScopeStatement block) }
-        requires ready { Ready H.answer H.next H.keeps tables.now budget self.old (StatementFrame slot depth) store.old (H.state host.old) }
-        ensures { Turns H.answer H.next H.keeps tables.now budget self.old (StatementFrame slot depth) store.old (H.state host.old) self.new store.new (H.state host.new) }
+    fn on_scope(&mut self, slot: u32, depth: u32, block: ReactiveScopeBlock)
+        requires due { Due H.Host self.old (StatementFrame slot depth) }
+        requires here { nth self.old.tables.now.arena.statements.vec.items slot ≡ Some (ScopeStatement block) }
+        ensures same { Same self.old self.new }
+        ensures turns { Turns H.Host self.old (StatementFrame slot depth) self.new }
     {
-        match record_of(tables, block.scope) {
-            None => {
-                self.frames.push_reserved(Frame::Leaves { recorded: None });
-                self.frames.push_reserved(Frame::Block {
-                    rest: block.instructions,
-                    depth,
-                });
-            }
-            Some(place) => {
-                self.entries += 1;
-                self.frames.push_reserved(Frame::Leaves {
-                    recorded: Some(place),
-                });
-                self.frames.push_reserved(Frame::Block {
-                    rest: block.instructions,
-                    depth,
-                });
-            }
-        }
+        let recorded = record_of(self.tables, block.scope);
+        self.memory.entries += u32::from(recorded.is_some());
+        self.memory.push(Frame::Leaves { recorded });
+        self.memory.push(Frame::Block {
+            rest: block.instructions,
+            depth,
+        });
     }
 
-    pub(crate) fn on_leaves<H: Host>(
-        &mut self,
-        tables: &Tables,
-        host: &mut H,
-        store: &mut [u32],
-        budget: u32,
-        recorded: Option<u32>,
-    )
-        requires normal { self.old.exit ≡ Normal }
-        requires ready { Ready H.answer H.next H.keeps tables.now budget self.old (LeavesFrame recorded) store.old (H.state host.old) }
-        ensures { Turns H.answer H.next H.keeps tables.now budget self.old (LeavesFrame recorded) store.old (H.state host.old) self.new store.new (H.state host.new) }
+    pub(crate) fn on_leaves(&mut self, recorded: Option<u32>)
+        requires normal { self.old.memory.now.exit ≡ Normal }
+        requires ready { Ready H.Host self.old (LeavesFrame recorded) }
+        ensures same { Same self.old self.new }
+        ensures turns { Turns H.Host self.old (LeavesFrame recorded) self.new }
     {
-        match recorded {
-            None => {}
-            Some(place) => {
-                let value = read(store, place);
-                if value != 1 {
-                    self.exit = Exit::Returned(value);
-                    self.recorded = true;
-                }
+        if let Some(place) = recorded {
+            let value = self.look(place);
+            if value != 1 {
+                self.memory.exit = Exit::Returned(value);
+                self.memory.recorded = true;
             }
         }
     }

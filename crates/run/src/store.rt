@@ -5,16 +5,18 @@ ghost use Rattle.semantics.specs.Machine.{look, put};
 
 use hir::place::Place;
 
+#[tactic(auto, unfolding(semantics::specs::Machine::look))]
 pub fn read(store: &[u32], at: u32) -> u32
     ensures { result ≡ look store.now at }
 {
-    let at = at as usize;
-    if at < store.len() { store[at] } else { 0 }
+    store.get(at as usize).copied().unwrap_or(0)
 }
 
+#[tactic(auto, unfolding(semantics::specs::Machine::put))]
 pub fn write(store: &mut [u32], at: u32, value: u32)
     ensures { store.new ≡ put store.old at value }
 {
+    // by index, since a proof knows nothing of the store after `get_mut`
     let at = at as usize;
     if at < store.len() {
         store[at] = value;
@@ -25,8 +27,7 @@ pub fn write(store: &mut [u32], at: u32, value: u32)
 pub fn assign(store: &mut [u32], place: Option<Place>, value: u32)
     ensures { store.new ≡ kept place store.old value }
 {
-    match place {
-        None => {}
-        Some(p) => write(store, p.identifier, value),
+    if let Some(place) = place {
+        write(store, place.identifier, value);
     }
 }

@@ -1,250 +1,129 @@
 // The turns of switches.
-ghost use Rattle.std.specs.Prelude.{◌≡◌, ◌+◌, ◌<◌, ◌≤◌, Some, None, vec_len, vec_capacity};
+ghost use Rattle.std.specs.Prelude.{◌≡◌, ◌<◌, Some, None};
 ghost use Rattle.hir.specs.Options.{nth};
-ghost use Rattle.run.specs.declared.frame.Exit.TheVariants.{Normal};
-ghost use Rattle.run.specs.Turn.{Ready, Turns};
+ghost use Rattle.run.specs.Turn.{Due, Same, Turns};
 ghost use Rattle.run.specs.declared.frame.Frame.TheVariants.{Selects as SelectsFrame, Cases as CasesFrame};
 
-use crate::ask::ask_case;
-use crate::frame::{Exit, Frame, Selection};
-use crate::memory::Memory;
-use crate::reads::case_at;
-use crate::store::read;
+use crate::frame::{Frame, Selection};
+use crate::machine::Machine;
 use hir::place::Place;
 use hir::range::Range;
-use hir::tables::Tables;
 use hir::terminal::ReactiveSwitchCase;
-use host::{Host, Reply};
+use host::{Host, Question};
 
-impl Memory {
-    pub(crate) fn on_selects<H: Host>(
-        &mut self,
-        tables: &Tables,
-        host: &mut H,
-        store: &mut [u32],
-        budget: u32,
-        selection: Selection,
-        label: Option<u32>,
-        depth: u32,
-    )
-        requires normal { self.old.exit ≡ Normal }
-        requires room { vec_len self.old.frames ≤ 1000 }
-        requires ready { Ready H.answer H.next H.keeps tables.now budget self.old (SelectsFrame selection label depth) store.old (H.state host.old) }
-        ensures { Turns H.answer H.next H.keeps tables.now budget self.old (SelectsFrame selection label depth) store.old (H.state host.old) self.new store.new (H.state host.new) }
+impl<'a, H: Host> Machine<'a, H> {
+    // Three methods are below it, one for each rule that the definition of a run has for a switch's choice.
+    pub(crate) fn on_selects(&mut self, selection: Selection, label: Option<u32>, depth: u32)
+        requires { Due H.Host self.old (SelectsFrame selection label depth) }
+        ensures same { Same self.old self.new }
+        ensures turns { Turns H.Host self.old (SelectsFrame selection label depth) self.new }
     {
         if selection.rest.count == 0 {
-            self.on_unselected(tables, host, store, budget, selection, label, depth)
+            self.on_unselected(selection, label, depth)
         } else {
-            self.on_case(tables, host, store, budget, selection, label, depth)
+            self.on_case(selection, label, depth)
         }
     }
 
-    pub(crate) fn on_unselected<H: Host>(
-        &mut self,
-        tables: &Tables,
-        host: &mut H,
-        store: &mut [u32],
-        budget: u32,
-        selection: Selection,
-        label: Option<u32>,
-        depth: u32,
-    )
-        requires normal { self.old.exit ≡ Normal }
-        requires room { vec_len self.old.frames ≤ 1000 }
+    fn on_unselected(&mut self, selection: Selection, label: Option<u32>, depth: u32)
+        requires due { Due H.Host self.old (SelectsFrame selection label depth) }
         requires none { selection.rest.count ≡ 0 }
-        requires ready { Ready H.answer H.next H.keeps tables.now budget self.old (SelectsFrame selection label depth) store.old (H.state host.old) }
-        ensures { Turns H.answer H.next H.keeps tables.now budget self.old (SelectsFrame selection label depth) store.old (H.state host.old) self.new store.new (H.state host.new) }
+        ensures same { Same self.old self.new }
+        ensures turns { Turns H.Host self.old (SelectsFrame selection label depth) self.new }
     {
-        match selection.default {
-            Some(place) => {
-                let rest = Range {
-                    start: selection.all.start + place,
-                    count: selection.all.count - place,
-                };
-                self.given = place;
-                self.frames.push_reserved(Frame::EndsSwitch { label });
-                self.frames.push_reserved(Frame::Cases { rest, depth });
-            }
-            None => {
-                let rest = Range {
-                    start: selection.all.start + selection.next,
-                    count: selection.all.count - selection.next,
-                };
-                self.given = selection.next;
-                self.frames.push_reserved(Frame::EndsSwitch { label });
-                self.frames.push_reserved(Frame::Cases { rest, depth });
-            }
-        }
+        let place = selection.default.unwrap_or(selection.next);
+        self.memory.choose(selection.all, place, label, depth);
     }
 
-    pub(crate) fn on_case<H: Host>(
-        &mut self,
-        tables: &Tables,
-        host: &mut H,
-        store: &mut [u32],
-        budget: u32,
-        selection: Selection,
-        label: Option<u32>,
-        depth: u32,
-    )
-        requires normal { self.old.exit ≡ Normal }
-        requires room { vec_len self.old.frames ≤ 1000 }
+    fn on_case(&mut self, selection: Selection, label: Option<u32>, depth: u32)
+        requires due { Due H.Host self.old (SelectsFrame selection label depth) }
         requires some { 0 < selection.rest.count }
-        requires ready { Ready H.answer H.next H.keeps tables.now budget self.old (SelectsFrame selection label depth) store.old (H.state host.old) }
-        ensures { Turns H.answer H.next H.keeps tables.now budget self.old (SelectsFrame selection label depth) store.old (H.state host.old) self.new store.new (H.state host.new) }
+        ensures same { Same self.old self.new }
+        ensures turns { Turns H.Host self.old (SelectsFrame selection label depth) self.new }
     {
-        let case = case_at(tables, selection.rest.start);
+        let case = self.tables.arena.cases.table.at(selection.rest.start);
         match case.test {
-            None => { self.on_untested(tables, host, store, budget, selection, label, depth, case) }
-            Some(test) => {
-                self.on_tested(
-                    tables, host, store, budget, selection, label, depth, case, test,
-                )
-            }
+            None => self.on_untested(selection, label, depth, case),
+            Some(test) => self.on_tested(selection, label, depth, case, test),
         }
     }
 
-    pub(crate) fn on_untested<H: Host>(
+    fn on_untested(
         &mut self,
-        tables: &Tables,
-        host: &mut H,
-        store: &mut [u32],
-        budget: u32,
         selection: Selection,
         label: Option<u32>,
         depth: u32,
         case: ReactiveSwitchCase,
     )
-        requires normal { self.old.exit ≡ Normal }
-        requires room { vec_len self.old.frames ≤ 1000 }
+        requires due { Due H.Host self.old (SelectsFrame selection label depth) }
         requires some { 0 < selection.rest.count }
-        requires here { nth tables.now.arena.cases.items selection.rest.start ≡ Some case }
+        requires here { nth self.old.tables.now.arena.cases.table.vec.items selection.rest.start ≡ Some case }
         requires is { case.test ≡ None }
-        requires ready { Ready H.answer H.next H.keeps tables.now budget self.old (SelectsFrame selection label depth) store.old (H.state host.old) }
-        ensures { Turns H.answer H.next H.keeps tables.now budget self.old (SelectsFrame selection label depth) store.old (H.state host.old) self.new store.new (H.state host.new) }
+        ensures same { Same self.old self.new }
+        ensures turns { Turns H.Host self.old (SelectsFrame selection label depth) self.new }
     {
-        let rest = Range {
-            start: selection.rest.start + 1,
-            count: selection.rest.count - 1,
+        let selection = Selection {
+            default: selection.default.or(Some(selection.next)),
+            ..selection.passed()
         };
-        match selection.default {
-            None => {
-                let selection = Selection {
-                    value: selection.value,
-                    rest,
-                    next: selection.next + 1,
-                    default: Some(selection.next),
-                    all: selection.all,
-                };
-                self.frames.push_reserved(Frame::Selects {
-                    selection,
-                    label,
-                    depth,
-                });
-            }
-            Some(place) => {
-                let selection = Selection {
-                    value: selection.value,
-                    rest,
-                    next: selection.next + 1,
-                    default: Some(place),
-                    all: selection.all,
-                };
-                self.frames.push_reserved(Frame::Selects {
-                    selection,
-                    label,
-                    depth,
-                });
-            }
-        }
+        self.memory.push(Frame::Selects {
+            selection,
+            label,
+            depth,
+        });
     }
 
-    pub(crate) fn on_tested<H: Host>(
+    fn on_tested(
         &mut self,
-        tables: &Tables,
-        host: &mut H,
-        store: &mut [u32],
-        budget: u32,
         selection: Selection,
         label: Option<u32>,
         depth: u32,
         case: ReactiveSwitchCase,
         test: Place,
     )
-        requires normal { self.old.exit ≡ Normal }
-        requires room { vec_len self.old.frames ≤ 1000 }
+        requires due { Due H.Host self.old (SelectsFrame selection label depth) }
         requires some { 0 < selection.rest.count }
-        requires here { nth tables.now.arena.cases.items selection.rest.start ≡ Some case }
+        requires here { nth self.old.tables.now.arena.cases.table.vec.items selection.rest.start ≡ Some case }
         requires is { case.test ≡ Some test }
-        requires ready { Ready H.answer H.next H.keeps tables.now budget self.old (SelectsFrame selection label depth) store.old (H.state host.old) }
-        ensures { Turns H.answer H.next H.keeps tables.now budget self.old (SelectsFrame selection label depth) store.old (H.state host.old) self.new store.new (H.state host.new) }
+        ensures same { Same self.old self.new }
+        ensures turns { Turns H.Host self.old (SelectsFrame selection label depth) self.new }
     {
-        let rest = Range {
-            start: selection.rest.start + 1,
-            count: selection.rest.count - 1,
+        let question = Question {
+            kind: 43,
+            payload: 0,
+            position: 0,
         };
-        let asked = read(store, test.identifier);
-        match ask_case(host, &mut self.values, selection.value, asked) {
-            Reply::Value(v) => {
-                if v != 0 {
-                    let rest = Range {
-                        start: selection.all.start + selection.next,
-                        count: selection.all.count - selection.next,
-                    };
-                    self.given = selection.next;
-                    self.frames.push_reserved(Frame::EndsSwitch { label });
-                    self.frames.push_reserved(Frame::Cases { rest, depth });
-                } else {
-                    self.given = v;
-                    let selection = Selection {
-                        value: selection.value,
-                        rest,
-                        next: selection.next + 1,
-                        default: selection.default,
-                        all: selection.all,
-                    };
-                    self.frames.push_reserved(Frame::Selects {
-                        selection,
-                        label,
-                        depth,
-                    });
-                }
-            }
-            Reply::Thrown(v) => {
-                self.exit = Exit::Threw(v);
-            }
+        let asked = self.look(test.identifier);
+        let reply = self.host.ask(question, &[selection.value, asked]);
+        let Some(v) = self.memory.answered(reply) else {
+            return;
+        };
+        if v != 0 {
+            self.memory
+                .choose(selection.all, selection.next, label, depth);
+        } else {
+            self.memory.given = v;
+            self.memory.push(Frame::Selects {
+                selection: selection.passed(),
+                label,
+                depth,
+            });
         }
     }
 
-    pub(crate) fn on_cases<H: Host>(
-        &mut self,
-        tables: &Tables,
-        host: &mut H,
-        store: &mut [u32],
-        budget: u32,
-        rest: Range,
-        depth: u32,
-    )
-        requires normal { self.old.exit ≡ Normal }
-        requires room { vec_len self.old.frames ≤ 1000 }
-        requires ready { Ready H.answer H.next H.keeps tables.now budget self.old (CasesFrame rest depth) store.old (H.state host.old) }
-        ensures { Turns H.answer H.next H.keeps tables.now budget self.old (CasesFrame rest depth) store.old (H.state host.old) self.new store.new (H.state host.new) }
+    pub(crate) fn on_cases(&mut self, rest: Range, depth: u32)
+        requires { Due H.Host self.old (CasesFrame rest depth) }
+        ensures same { Same self.old self.new }
+        ensures turns { Turns H.Host self.old (CasesFrame rest depth) self.new }
     {
         if rest.count == 0 {
             return;
         }
-        let case = case_at(tables, rest.start);
-        let rest = Range {
-            start: rest.start + 1,
-            count: rest.count - 1,
-        };
-        self.frames.push_reserved(Frame::Cases { rest, depth });
-        match case.block {
-            None => {}
-            Some(block) => {
-                self.frames
-                    .push_reserved(Frame::Block { rest: block, depth });
-            }
+        let case = self.tables.arena.cases.table.at(rest.start);
+        let rest = rest.behind(1);
+        self.memory.push(Frame::Cases { rest, depth });
+        if let Some(block) = case.block {
+            self.memory.push(Frame::Block { rest: block, depth });
         }
     }
 }

@@ -1,18 +1,13 @@
-use Rattle.std.proofs.Common.{ℕ, ◌+◌, List, vec_items, sym, ap, ◌∙◌}
-use Rattle.hir.specs.declared.place.Place.{Place}
-use Rattle.run.specs.Operands.{between, stores}
-use Rattle.run.proofs.Between.{between_first, between_none}
+use Rattle.std.proofs.Common.{sym, ap, ◌∙◌}
+use Rattle.std.proofs.lemmas.List.{drop_all}
+use Rattle.run.specs.Operands.{stores}
+use Rattle.run.proofs.Operating.{stores_next}
 use Rattle.run.proofs.operands.store_all.Goals as goal
 
-pub loop-at-preserved : goal.loop-at-preserved
-loop-at-preserved c =
-    let ps = vec_items c.args.tables.now.arena.inner.places in
-    let v = c.args.value in
-    c.loop-at.invariant
-    ∙ ap (λ (l : List Place). stores c.loop-at.store v l) (between_first ps c.loop-at.at c.args.to c.place_at.result c.loop-at-test.true c.place_at.ensures)
-    ∙ ap (λ (σ : List ℕ). stores σ v (between ps (c.loop-at.at + 1) c.args.to)) (sym c.write.ensures)
+pub loop-place-preserved : goal.loop-place-preserved
+loop-place-preserved c = c.loop-place.invariant ∙ stores_next _ _ _ c.loop-place-test.true _ _ _ c.write.ensures
 
 pub returns : goal.returns
 returns c =
-    let ps = vec_items c.args.tables.now.arena.inner.places in
-    sym (c.loop-at.invariant ∙ ap (λ (l : List Place). stores c.loop-at.store c.args.value l) (between_none ps c.loop-at.at c.args.to c.loop-at-test.false))
+    let l = c.loop-place in
+    sym (l.invariant ∙ ap (stores l.store c.args.value) (drop_all l.place-index c.args.places.now c.loop-place-test.false))

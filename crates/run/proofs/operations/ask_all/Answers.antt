@@ -1,25 +1,19 @@
-use Rattle.std.proofs.Common.{◌+◌, vec_items}
-use Rattle.run.specs.Operands.{between, shown}
-use Rattle.run.proofs.Operating.{all_first, all_each, all_done}
+use Rattle.run.proofs.Operating.{all_thrown, all_each, all_done, throws}
 use Rattle.run.proofs.operations.ask_all.Goals as goal
 
-pub returns-in_default : goal.returns-in_default
-returns-in_default g c =
-    let i = c.args.operation in
-    all_first g.H.Host.answer g.H.Host.next g.H.Host.keeps i.kind i.payload (shown c.args.values.now)
-    (between (vec_items c.args.tables.now.arena.inner.places) i.written.start (i.written.start + i.written.count)) c.args.given
-    _ _ (g.H.Host.state c.args.host.now) c.args.store.now c.args.store.now c.ask_first-first.result c.ask_first-first.result c.in_default.not-Normal c.ask_first-first.ensures
+pub returns-in_err-first : goal.returns-in_err-first
+returns-in_err-first g c =
+    let r = c.in_err-first.ensures in
+    let f = c.from_residual.ensures in
+    all_thrown g.H.Host c.args.operation c.args.values.now c.args.written.now c.args.given.now _ _ c.args.store.now r.moves c.in_err-first.field-0.0 _ r.answers (throws _ c.in_err-first.field-0.0 f.0 f.1)
 
-pub returns-in-Normal-exit : goal.returns-in-Normal-exit
-returns-in-Normal-exit g c =
-    let i = c.args.operation in
-    all_done g.H.Host.answer g.H.Host.next g.H.Host.keeps i.kind i.payload (shown c.args.values.now)
-    (between (vec_items c.args.tables.now.arena.inner.places) i.written.start (i.written.start + i.written.count)) c.args.given
-    _ _ _ c.args.store.now _ c.ask_first-first.result c.ask_each-each.result c.in-Normal.is c.ask_first-first.ensures c.ask_each-each.ensures c.in-Normal-exit.is
+pub returns-in_err-ask_each : goal.returns-in_err-ask_each
+returns-in_err-ask_each g c =
+    let r = c.in_ok-first.ensures in
+    let f = c.from_residual-in_err-ask_each.ensures in
+    all_each g.H.Host c.args.operation c.args.values.now c.args.written.now c.args.given.now _ _ c.args.store.now r.moves _ r.answers _ _ _ c.in_err-ask_each.field-0.0 _ c.in_err-ask_each.ensures (throws _ c.in_err-ask_each.field-0.0 f.0 f.1)
 
-pub returns-in_default-exit : goal.returns-in_default-exit
-returns-in_default-exit g c =
-    let i = c.args.operation in
-    all_each g.H.Host.answer g.H.Host.next g.H.Host.keeps i.kind i.payload (shown c.args.values.now)
-    (between (vec_items c.args.tables.now.arena.inner.places) i.written.start (i.written.start + i.written.count)) c.args.given
-    _ _ _ c.args.store.now _ c.ask_first-first.result c.ask_each-each.result c.in-Normal.is c.ask_first-first.ensures c.ask_each-each.ensures c.in_default-exit.not-Normal
+pub returns : goal.returns
+returns g c =
+    let r = c.in_ok-first.ensures in
+    all_done g.H.Host c.args.operation c.args.values.now c.args.written.now c.args.given.now _ _ c.args.store.now r.moves _ r.answers _ _ _ c.in_ok-ask_each.ensures

@@ -1,11 +1,7 @@
-use Rattle.std.proofs.Common.{sym, refl}
+use Rattle.std.proofs.Common.{sym}
 use lib.Seq.{set_out}
 use Rattle.semantics.specs.Machine.{put}
 use Rattle.run.proofs.store.write.Goals as goal
-
-pub returns-then-at-store : goal.returns-then-at-store
-unfolding put
-returns-then-at-store c = refl
 
 pub returns-else-at-store : goal.returns-else-at-store
 unfolding put
