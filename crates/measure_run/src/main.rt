@@ -2,7 +2,7 @@
 // of zeros, best of so many.
 #![tactic(auto)]
 
-use anyhow::anyhow;
+use anyhow::Context;
 use hir::tables::Tables;
 use host::NumberHost;
 use load::load::load;
@@ -12,49 +12,45 @@ use semantics::Outcome;
 use std::time::Instant;
 use std::{env, fs};
 
-// One run; false where it is refused, or ends before its budget is spent.
-fn spent(memory: &mut Memory, tables: &Tables, store: &mut [u32], budget: u32) -> bool {
-    let mut host = NumberHost;
-    match run(memory, tables, &mut host, store, budget) {
-        Ok(ran) => matches!(ran.outcome, Outcome::Spent),
-        Err(_) => false,
-    }
-}
+const REFUSED: &str = "the file is refused, or its run ends";
 
 // An argument that is not there is 0.
 fn number(word: Option<String>) -> anyhow::Result<u32> {
-    match word {
-        Some(word) => Ok(word.as_str().parse::<u32>()?),
-        None => Ok(0),
-    }
+    Ok(word.map_or(Ok(0), |word| word.as_str().parse::<u32>())?)
 }
 
 fn main(rt: HostRuntime) -> anyhow::Result<()> {
     let heap = rt.alloc();
     let mut arguments = env::args(&rt)?.skip(1);
-    let Some(file) = arguments.next() else {
-        return Err(anyhow!("usage: measure_run FILE BUDGET TURNS"));
-    };
+    let file = arguments
+        .next()
+        .context("usage: measure_run FILE BUDGET TURNS")?;
     let budget = number(arguments.next())?;
     let turns = number(arguments.next())?;
     let bytes = fs::read(&rt, file.as_str())?;
     let mut tables = Tables::new(heap)?;
-    let mut good = load(&mut tables, bytes.as_slice()).is_ok();
+    load(&mut tables, bytes.as_slice()).ok().context(REFUSED)?;
     let mut memory = Memory::new(heap)?;
-    let mut best = u128::MAX;
+    let mut best = None;
     for _ in 0..turns {
-        let mut store = vec![in heap; 0u32; tables.environment.identifiers.len()]?;
+        let mut store = vec![in heap; 0u32; tables.environment.identifiers.vec.len()]?;
         let begin = Instant::now(&rt)?;
-        good &= spent(&mut memory, &tables, store.as_mut_slice(), budget);
-        best = best.min(begin.elapsed(&rt)?.as_nanos());
+        run(
+            &mut memory,
+            &tables,
+            &mut NumberHost,
+            store.as_mut_slice(),
+            budget,
+        )
+        .ok()
+        .filter(|ran| ran.outcome == Outcome::Spent)
+        .context(REFUSED)?;
+        let took = begin.elapsed(&rt)?.as_nanos();
+        best = Some(best.map_or(took, |best: u128| best.min(took)));
     }
-    if !good {
-        return Err(anyhow!("the file is refused, or its run ends"));
-    }
-    if turns == 0 {
-        println!(rt; "no turn")?;
-    } else {
-        println!(rt; "{best}")?;
+    match best {
+        Some(best) => println!(rt; "{best}")?,
+        None => println!(rt; "no turn")?,
     }
     Ok(())
 }

@@ -1,19 +1,17 @@
 -- What is printed for what is asked, a file's bytes and the text of the answers. Assumes nothing.
-use Rattle.std.specs.Prelude.{◌≡◌, ℕ, cond, ◌⊎◌, List, [], ◌∷◌, ◌++◌, length, Some, None, Ok, Err, Option, Result as Answer}
+use Rattle.std.specs.Prelude.{◌≡◌, ℕ, ◌⊎◌, List, [], ◌∷◌, ◌++◌, length, Some, None, Ok, Err, Option, Result as Answer}
 use Rattle.format.specs.declared.fault.LoadFault.{LoadFault}
 use Rattle.fault.specs.declared.RunFault.{RunFault}
-use Rattle.fault.specs.declared.RunFault.TheVariants.{StoreTooShort, BudgetTooLarge}
 use Rattle.format.specs.Parse.{parse_file}
 use Rattle.hir.specs.Tree.{Function}
-use Rattle.host.specs.Hosts.{tape}
 use Rattle.load.specs.Loads.{Refused}
 use Rattle.questions.specs.Answers.{Sound}
 use Rattle.run.specs.Runs.{refusal}
 use Rattle.screen.specs.Arguments.{Asked}
-use Rattle.screen.specs.Refusal.{load_lines, short_store_lines, large_budget_lines}
+use Rattle.screen.specs.declared.arguments.HostKind.TheVariants as Host
+use Rattle.screen.specs.Refusal.{load_lines, run_lines as fault_lines}
 use Rattle.screen.specs.Said.{lines}
 use Rattle.screen.specs.Store.{store_of}
-use Rattle.screen.specs.Unused.{left}
 use Rattle.semantics.specs.Exec.{exec, ran, last}
 use Rattle.semantics.specs.Examples.{number_host, list_host}
 use Rattle.semantics.specs.Machine.{Meaning, Result as Part}
@@ -21,10 +19,6 @@ use Rattle.semantics.specs.declared.Ran.{Ran}
 use Rattle.text.specs.Message.{message}
 use Rattle.text.specs.Said.{said}
 use Rattle.text.specs.declared.character.TextFault.{TextFault}
-
-abbrev pub fault_lines : RunFault → List ℕ
-fault_lines StoreTooShort = short_store_lines
-fault_lines BudgetTooLarge = large_budget_lines
 
 -- what a run gave, with the store and the number of answers that it left
 abbrev pub ran_lines : Answer Ran RunFault → List ℕ → ℕ → List ℕ
@@ -47,11 +41,11 @@ abbrev pub number_run : Function → ℕ → List ℕ → List ℕ
 number_run F B σ = run_lines number_host none_left F B tt σ
 
 abbrev pub list_run : Function → ℕ → List ℕ → List ℕ → List ℕ
-list_run F B σ answers = run_lines list_host left F B (tape answers 0) σ
+list_run F B σ answers = run_lines list_host length F B answers σ
 
 -- what is asked of a function; its store is long enough
 abbrev pub lines_on : Asked → List ℕ → Function → List ℕ → List ℕ
-lines_on q answers F σ = cond q.number (number_run F q.budget σ) (list_run F q.budget σ answers)
+lines_on q answers F σ = elim q.host [ Host.Number ↦ number_run F q.budget σ | Host.List ↦ list_run F q.budget σ answers ]
 
 abbrev pub lines_for : Asked → List ℕ → Function → List ℕ
 lines_for q answers F = lines_on q answers F (store_of q.values (length F.identifiers))

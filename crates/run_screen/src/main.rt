@@ -3,9 +3,9 @@
 
 mod running;
 
-use crate::running::{answer, usage};
-use screen::arguments::{ArgumentFault, Request, read_request};
-use std::alloc::AllocError;
+use crate::running::answer;
+use screen::arguments::{ArgumentFault, HostKind, Request, read_request};
+use screen::refusal::Usage;
 use std::io::Read;
 use std::{env, fs};
 
@@ -14,7 +14,7 @@ fn run_file(rt: &HostRuntime, request: &Request) -> anyhow::Result<()> {
     let heap = rt.alloc();
     let file = fs::read(rt, request.file.as_str())?;
     let mut text = Vec::new(heap);
-    if !request.number {
+    if request.host == HostKind::List {
         rt.stdin().read_to_end(&mut text)?;
     }
     rt.print(answer(heap, request, file.as_slice(), text.as_slice())?)?;
@@ -23,16 +23,10 @@ fn run_file(rt: &HostRuntime, request: &Request) -> anyhow::Result<()> {
 
 fn main(rt: HostRuntime) -> anyhow::Result<()> {
     let heap = rt.alloc();
-    let mut words = Vec::new(heap);
-    for word in env::args(&rt)?.skip(1) {
-        words.push(word)?;
-    }
+    let words: Vec<String> = env::args(&rt)?.skip(1).collect(heap)?;
     match read_request(heap, words.as_slice()) {
         Ok(request) => run_file(&rt, &request),
-        Err(ArgumentFault::Usage) => {
-            rt.print(usage(heap)?)?;
-            Ok(())
-        }
-        Err(ArgumentFault::Memory) => Err(AllocError.into()),
+        Err(ArgumentFault::Usage) => Ok(rt.print(Usage)?),
+        Err(ArgumentFault::Memory(error)) => Err(error.into()),
     }
 }

@@ -8,23 +8,25 @@ use host::{ListHost, NumberHost};
 use load::load::load;
 use run::memory::Memory;
 use run::run::run;
+use screen::arguments::HostKind;
 use screen::unused::unused;
-use semantics::{Outcome, Ran};
-use std::alloc::Global;
+use semantics::Ran;
+use std::alloc::{AllocError, Global};
 use std::io::{BufRead, BufReader};
 use text::bytes::bytes_of;
-use text::line::add_words;
+use text::line::Words;
 use text::read::words;
 
 #[derive(Drop)]
-struct Case {
-    number: bool,
+struct Case<'a> {
+    host: HostKind,
     budget: u32,
     store: Vec<u32>,
     answers: Vec<u32>,
+    expected: &'a str,
 }
 
-#[derive(Drop)]
+#[derive(Default, Drop)]
 struct Counts {
     functions: u32,
     runs: u32,
@@ -33,20 +35,7 @@ struct Counts {
 
 // Decimal words; a text that is none says nothing.
 fn numbers(heap: Global, text: &str) -> Vec<u32> {
-    match words(heap, text.as_bytes()) {
-        Ok(said) => said,
-        Err(_) => Vec::new(heap),
-    }
-}
-
-fn outcome(heap: Global, outcome: Outcome) -> anyhow::Result<String> {
-    let said = match outcome {
-        Outcome::Returned(value) => format!(in heap; "returned {value}")?,
-        Outcome::Thrown(value) => format!(in heap; "thrown {value}")?,
-        Outcome::Ended => String::from_str(heap, "ended")?,
-        Outcome::Spent => String::from_str(heap, "spent")?,
-    };
-    Ok(said)
+    words(heap, text.as_bytes()).unwrap_or(Vec::new(heap))
 }
 
 // What the data says of a run, on one line.
@@ -55,39 +44,40 @@ fn told(
     ran: Result<Ran, RunFault>,
     store: &[u32],
     left: usize,
-) -> anyhow::Result<String> {
+) -> Result<String, AllocError> {
     match ran {
-        Ok(ran) => {
-            let ended = outcome(heap, ran.outcome)?;
-            let steps = ran.steps;
-            let entries = ran.entries;
-            let record = u8::from(ran.recorded);
-            let mut places = String::new(heap);
-            add_words(&mut places, store)?;
-            Ok(format!(in heap;
-                "{ended}; steps {steps}; entries {entries}; record {record}; store {places}; unused {left}"
-            )?)
-        }
-        Err(fault) => {
-            let number = fault.number();
-            Ok(format!(in heap; "refused {number}")?)
-        }
+        Ok(
+            Ran {
+                outcome,
+                steps,
+                entries,
+                recorded,
+            },
+        ) => format!(in heap;
+            "{outcome}; steps {steps}; entries {entries}; record {}; store {}; unused {left}",
+            u8::from(recorded),
+            Words(store)
+        ),
+        Err(fault) => format!(in heap; "refused {}", fault.number()),
     }
 }
 
 // The case of a line that is cut at its bars.
-fn case_of(heap: Global, asked: &str, store: &str, answers: &str) -> Option<Case> {
+fn case_of(heap: Global, line: &str) -> Option<Case<'_>> {
+    let (asked, rest) = line.split_once('|')?;
+    let (store, rest) = rest.split_once('|')?;
+    let (answers, expected) = rest.split_once('|')?;
     let (host, budget) = asked.trim().split_once(' ')?;
-    let number = host == "number";
-    let budget = numbers(heap, budget);
-    if budget.is_empty() || !number && host != "list" {
-        return None;
-    }
     Some(Case {
-        number,
-        budget: budget[0],
+        host: match host {
+            "number" => HostKind::Number,
+            "list" => HostKind::List,
+            _ => return None,
+        },
+        budget: *numbers(heap, budget).first()?,
         store: numbers(heap, store),
         answers: numbers(heap, answers),
+        expected: expected.trim(),
     })
 }
 
@@ -95,29 +85,19 @@ fn answer(
     heap: Global,
     memory: &mut Memory,
     tables: &Tables,
-    mut case: Case,
-) -> anyhow::Result<String> {
-    if case.number {
-        let mut host = NumberHost;
-        let ran = run(
-            memory,
-            tables,
-            &mut host,
-            case.store.as_mut_slice(),
-            case.budget,
-        );
-        return told(heap, ran, case.store.as_slice(), 0);
-    }
-    let mut host = ListHost::new(case.answers.as_slice());
-    let ran = run(
-        memory,
-        tables,
-        &mut host,
-        case.store.as_mut_slice(),
-        case.budget,
-    );
-    let left = unused(&mut host);
-    told(heap, ran, case.store.as_slice(), left)
+    case: &mut Case,
+) -> Result<String, AllocError> {
+    let store = case.store.as_mut_slice();
+    // A match: only a list has answers left, and a trait that tells them could not name the state of Host.
+    let (ran, left) = match case.host {
+        HostKind::Number => (run(memory, tables, &mut NumberHost, store, case.budget), 0),
+        HostKind::List => {
+            let mut host = ListHost::new(case.answers.as_slice());
+            let ran = run(memory, tables, &mut host, store, case.budget);
+            (ran, unused(&host))
+        }
+    };
+    told(heap, ran, store, left)
 }
 
 // A line of the data, after the function of which it speaks has been loaded.
@@ -129,20 +109,11 @@ fn replay(
     line: &str,
 ) -> anyhow::Result<()> {
     let heap = rt.alloc();
-    let Some((asked, rest)) = line.split_once('|') else {
+    let Some(mut case) = case_of(heap, line) else {
         return Ok(());
     };
-    let Some((store, rest)) = rest.split_once('|') else {
-        return Ok(());
-    };
-    let Some((answers, expected)) = rest.split_once('|') else {
-        return Ok(());
-    };
-    let Some(case) = case_of(heap, asked, store, answers) else {
-        return Ok(());
-    };
-    let answered = answer(heap, memory, tables, case)?;
-    if answered.as_str() == expected.trim() {
+    let answered = answer(heap, memory, tables, &mut case)?;
+    if answered.as_str() == case.expected {
         counts.runs = counts.runs.saturating_add(1);
     } else {
         counts.wrong = counts.wrong.saturating_add(1);
@@ -155,11 +126,7 @@ fn main(rt: HostRuntime) -> anyhow::Result<()> {
     let heap = rt.alloc();
     let mut tables = Tables::new(heap)?;
     let mut memory = Memory::new(heap)?;
-    let mut counts = Counts {
-        functions: 0,
-        runs: 0,
-        wrong: 0,
-    };
+    let mut counts = Counts::default();
     for line in BufReader::new(heap, rt.stdin())?.lines(heap) {
         let line = line?;
         match line.as_str().strip_prefix("function ") {
@@ -173,9 +140,11 @@ fn main(rt: HostRuntime) -> anyhow::Result<()> {
             }
         }
     }
-    let functions = counts.functions;
-    let runs = counts.runs;
-    let wrong = counts.wrong;
+    let Counts {
+        functions,
+        runs,
+        wrong,
+    } = counts;
     println!(rt; "{functions} functions, {runs} runs as listed, {wrong} otherwise")?;
     Ok(())
 }

@@ -1,7 +1,7 @@
 -- Where a reader of numbers stands: the values so far, and what the rest of the words says, are what all of them say.
 -- One lemma for the start, each way through a turn, and the end.
-use Rattle.std.proofs.Common.{◌≡◌, ℕ, ◌+◌, ◌<◌, ◌≤◌, List, [], ◌∷◌, ◌++◌, length, get_or, drop, Some, None, Option, sym, refl, ap, ◌∙◌, append_assoc, append-nil, add-one, drop-cons}
-use Rattle.std.proofs.lemmas.List.{drop_all}
+use Rattle.std.proofs.Common.{◌≡◌, ℕ, ◌+◌, ◌<◌, ◌≤◌, List, [], ◌∷◌, ◌++◌, map, length, get_or, drop, Some, None, Option, sym, refl, ap, ◌∙◌, append_assoc, append-nil, add-one, drop-cons}
+use Rattle.std.proofs.lemmas.List.{drop_all, get_or-map}
 use Rattle.screen.specs.Number.{number_of}
 use Rattle.screen.specs.Arguments.{onto, numbers_of}
 
@@ -39,3 +39,7 @@ counted_refused words vs i h e w = here words vs i None h e w
 
 pub counted_all : (words : List (List ℕ)) (vs : List ℕ) (i : ℕ) → length words ≤ i → Counted words vs i → numbers_of words ≡ Some vs
 counted_all words vs i h w = w.same ∙ ap (λ (l : List (List ℕ)). after vs (numbers_of l)) (drop_all i words h) ∙ ap Some (append-nil vs)
+
+-- the text of the word at i
+pub word_at : {X : Type 0} (f : X → List ℕ) (xs : List X) (i : ℕ) (x : X) → i < length xs → x ≡ get_or xs i x → f x ≡ get_or (map f xs) i []
+word_at f xs i x h e = ap f e ∙ sym (get_or-map f xs i x [] h)

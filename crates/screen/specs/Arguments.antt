@@ -1,15 +1,17 @@
 -- Which words behind the program's name are right, and what they ask. Assumes nothing.
-use Rattle.std.specs.Prelude.{◌≡◌, ℕ, Bool, true, false, cond, List, [], ◌∷◌, Some, None, Ok, Err, vec_items, string_bytes, codes, Option, Result, Vec}
+use Rattle.std.specs.Prelude.{◌≡◌, ℕ, cond, List, [], ◌∷◌, Some, None, Ok, Err, vec_items, string_bytes, codes, Option, Result, Vec}
 use Rattle.std.specs.Str.{bytes_eq}
 use Rattle.std.specs.declared.alloc.Global.{Global}
 use Rattle.screen.specs.Number.{number_of}
+use Rattle.screen.specs.declared.arguments.HostKind.{HostKind}
+use Rattle.screen.specs.declared.arguments.HostKind.TheVariants as Host
 use Rattle.screen.specs.declared.arguments.ArgumentFault.{ArgumentFault}
 use Rattle.screen.specs.declared.arguments.ArgumentFault.TheVariants.{Usage, Memory}
 use Rattle.screen.specs.declared.arguments.Request.{Request}
 
 -- the number host or the list host, a file's name, a budget and the store's first values
 pub record Asked : Type 0 where
-  pub number : Bool
+  pub host : HostKind
   pub file : List ℕ
   pub budget : ℕ
   pub values : List ℕ
@@ -24,33 +26,33 @@ abbrev pub numbers_of : List (List ℕ) → Option (List ℕ)
 numbers_of [] = Some []
 numbers_of (w ∷ ws) = onto (number_of w) (numbers_of ws)
 
-abbrev pub asked : Bool → List ℕ → Option ℕ → Option (List ℕ) → Option Asked
-asked flag file None vs = None
-asked flag file (Some b) None = None
-asked flag file (Some b) (Some vs) = Some (record { number = flag; file = file; budget = b; values = vs })
+abbrev pub asked : HostKind → List ℕ → Option ℕ → Option (List ℕ) → Option Asked
+asked host file None vs = None
+asked host file (Some b) None = None
+asked host file (Some b) (Some vs) = Some (record { host = host; file = file; budget = b; values = vs })
 
 -- FILE BUDGET [VALUE ...]
-abbrev pub asks_after : Bool → List (List ℕ) → Option Asked
-asks_after flag [] = None
-asks_after flag (f ∷ []) = None
-asks_after flag (f ∷ (b ∷ ws)) = asked flag f (number_of b) (numbers_of ws)
+abbrev pub asks_after : HostKind → List (List ℕ) → Option Asked
+asks_after host [] = None
+asks_after host (f ∷ []) = None
+asks_after host (f ∷ (b ∷ ws)) = asked host f (number_of b) (numbers_of ws)
 
 -- [--number] FILE BUDGET [VALUE ...]
 abbrev pub asks : List (List ℕ) → Option Asked
 asks [] = None
-asks (w ∷ ws) = cond (bytes_eq w (codes "--number")) (asks_after true ws) (asks_after false (w ∷ ws))
+asks (w ∷ ws) = cond (bytes_eq w (codes "--number")) (asks_after Host.Number ws) (asks_after Host.List (w ∷ ws))
 
 abbrev pub held : Request → Asked
-held q = record { number = q.number; file = string_bytes q.file; budget = q.budget; values = vec_items q.values }
+held q = record { host = q.host; file = string_bytes q.file; budget = q.budget; values = vec_items q.values }
 
 -- an answer to words that ask o
 abbrev pub Answers : Option Asked → Result Request ArgumentFault → Type 0
 Answers o (Ok q) = o ≡ Some (held q)
 Answers o (Err Usage) = o ≡ None
-Answers o (Err Memory) = Unit {0}
+Answers o (Err (Memory e)) = Unit {0}
 
-abbrev pub AsksAfter : Bool → List (List ℕ) → Result Request ArgumentFault → Type 0
-AsksAfter flag ws r = Answers (asks_after flag ws) r
+abbrev pub AsksAfter : HostKind → List (List ℕ) → Result Request ArgumentFault → Type 0
+AsksAfter host ws r = Answers (asks_after host ws) r
 
 abbrev pub Asks : List (List ℕ) → Result Request ArgumentFault → Type 0
 Asks ws r = Answers (asks ws) r
@@ -58,4 +60,4 @@ Asks ws r = Answers (asks ws) r
 abbrev pub Numbers : List (List ℕ) → Result (Vec ℕ Global) ArgumentFault → Type 0
 Numbers ws (Ok vs) = numbers_of ws ≡ Some (vec_items vs)
 Numbers ws (Err Usage) = numbers_of ws ≡ None
-Numbers ws (Err Memory) = Unit {0}
+Numbers ws (Err (Memory e)) = Unit {0}

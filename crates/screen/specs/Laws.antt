@@ -1,6 +1,7 @@
 -- What holds of the numbers that are read, and examples of what is asked and started with. Assumes nothing.
-use Rattle.std.specs.Prelude.{◌≡◌, ℕ, ◌≤◌, true, false, [], ◌∷◌, Some, None, codes, decimal}
+use Rattle.std.specs.Prelude.{◌≡◌, ℕ, ◌≤◌, [], ◌∷◌, Some, None, codes, decimal}
 use Rattle.screen.specs.Arguments.{asks}
+use Rattle.screen.specs.declared.arguments.HostKind.TheVariants as Host
 use Rattle.screen.specs.Number.{number_of}
 use Rattle.screen.specs.Store.{store_of}
 
@@ -9,8 +10,8 @@ abbrev pub ReadsBack : Type 0
 ReadsBack = (n : ℕ) → n ≤ 4294967295 → number_of (decimal n) ≡ Some n
 
 pub record Examples : Type 0 where
-  pub flag : asks (codes "--number" ∷ codes "f" ∷ codes "100" ∷ codes "5" ∷ []) ≡ Some (record { number = true; file = codes "f"; budget = 100; values = 5 ∷ [] })
-  pub no_flag : asks (codes "f" ∷ codes "007" ∷ []) ≡ Some (record { number = false; file = codes "f"; budget = 7; values = [] })
+  pub flag : asks (codes "--number" ∷ codes "f" ∷ codes "100" ∷ codes "5" ∷ []) ≡ Some (record { host = Host.Number; file = codes "f"; budget = 100; values = 5 ∷ [] })
+  pub no_flag : asks (codes "f" ∷ codes "007" ∷ []) ≡ Some (record { host = Host.List; file = codes "f"; budget = 7; values = [] })
   pub no_words : asks [] ≡ None
   pub no_budget : asks (codes "f" ∷ []) ≡ None
   pub no_number : asks (codes "f" ∷ codes "1" ∷ codes "-1" ∷ []) ≡ None

@@ -4,4 +4,3 @@ pub mod Number
 pub mod Refusal
 pub mod Said
 pub mod Store
-pub mod Unused

@@ -1,11 +1,15 @@
 -- The two lines that tell a refusal: its number, and what it means, with the place where it has one. Assumes nothing.
 use Rattle.std.specs.Prelude.{ℕ, List, [], ◌∷◌, ◌++◌, codes, decimal}
+use Rattle.fault.specs.declared.RunFault.{RunFault}
+use Rattle.fault.specs.declared.RunFault.TheVariants.{StoreTooShort, BudgetTooLarge}
 use Rattle.format.specs.declared.fault.FileFault.{FileFault}
 use Rattle.format.specs.declared.fault.FileFault.TheVariants.{Length, Pairs, Reading, Limit}
 use Rattle.format.specs.declared.fault.CheckFault.{CheckFault}
 use Rattle.format.specs.declared.fault.CheckFault.TheVariants.{Numbers, Shapes, Targets, Scopes}
 use Rattle.format.specs.declared.fault.LoadFault.{LoadFault}
 use Rattle.format.specs.declared.fault.LoadFault.TheVariants.{File, Check}
+use Rattle.screen.specs.declared.refusal.Refusal.{Refusal}
+use Rattle.screen.specs.declared.refusal.Refusal.TheVariants.{Load, Run}
 
 -- the number on its line, then what it means
 abbrev pub refused : List ℕ → List ℕ → List ℕ
@@ -31,11 +35,13 @@ abbrev pub load_lines : LoadFault → List ℕ
 load_lines (File f) = file_lines f
 load_lines (Check f) = check_lines f
 
-abbrev pub short_store_lines : List ℕ
-short_store_lines = refused (codes "12") (codes "the store is shorter than the identifier table")
+abbrev pub run_lines : RunFault → List ℕ
+run_lines StoreTooShort = refused (codes "12") (codes "the store is shorter than the identifier table")
+run_lines BudgetTooLarge = refused (codes "13") (codes "the budget is above 1000000000")
 
-abbrev pub large_budget_lines : List ℕ
-large_budget_lines = refused (codes "13") (codes "the budget is above 1000000000")
+abbrev pub refusal_lines : Refusal → List ℕ
+refusal_lines (Load f) = load_lines f
+refusal_lines (Run f) = run_lines f
 
 -- what wrong arguments get
 abbrev pub usage : List ℕ

@@ -1,23 +1,47 @@
 // What the program is asked: `[--number] FILE BUDGET [VALUE ...]`, the words behind its name.
-ghost use Rattle.std.specs.Prelude.{map, string_bytes};
+ghost use Rattle.std.specs.Prelude.{◌≡◌, alloc_error, map, string_bytes};
 ghost use Rattle.screen.specs.Arguments.{AsksAfter, Asks, Numbers};
+ghost use Rattle.screen.specs.declared.arguments.ArgumentFault.TheVariants.{Memory};
 
 use crate::number::number;
-use std::alloc::Global;
+use std::alloc::{AllocError, AllocFailed, Global};
+
+// The host that answers a run's questions: a list of answers, or numbers.
+#[derive(Clone, Copy, Debug, PartialEq, Eq, Hash)]
+pub enum HostKind {
+    List,
+    Number,
+}
 
 #[derive(Drop)]
 pub struct Request {
-    pub number: bool,
+    pub host: HostKind,
     pub file: String,
     pub budget: u32,
     pub values: Vec<u32>,
 }
 
 // Not as the usage says, or no memory.
-#[derive(Clone, Copy)]
+#[derive(Clone, Copy, Debug, PartialEq, Eq)]
 pub enum ArgumentFault {
     Usage,
-    Memory,
+    Memory(AllocError),
+}
+
+impl From<AllocError> for ArgumentFault {
+    ghost from_gives = { λ error fault. fault ≡ Memory error };
+
+    fn from(error: AllocError) -> ArgumentFault {
+        ArgumentFault::Memory(error)
+    }
+}
+
+impl<T: Drop> From<AllocFailed<T>> for ArgumentFault {
+    ghost from_gives = { λ _ fault. fault ≡ Memory alloc_error };
+
+    fn from(error: AllocFailed<T>) -> ArgumentFault {
+        AllocError::from(error).into()
+    }
 }
 
 fn numbers(heap: Global, words: &[String]) -> Result<Vec<u32>, ArgumentFault>
@@ -25,51 +49,37 @@ fn numbers(heap: Global, words: &[String]) -> Result<Vec<u32>, ArgumentFault>
 {
     let mut values = Vec::new(heap);
     for word in words {
-        match number(word.as_bytes()) {
-            Some(value) => {
-                if values.push(value).is_err() {
-                    return Err(ArgumentFault::Memory);
-                }
-            }
-            None => {
-                return Err(ArgumentFault::Usage);
-            }
-        }
+        values.push(number(word.as_bytes()).ok_or(ArgumentFault::Usage)?)?;
     }
     Ok(values)
 }
 
 // The words behind the flag.
-fn read_after(heap: Global, flag: bool, words: &[String]) -> Result<Request, ArgumentFault>
-    ensures { AsksAfter flag (map string_bytes words.now) result }
+fn read_after(heap: Global, host: HostKind, words: &[String]) -> Result<Request, ArgumentFault>
+    ensures { AsksAfter host (map string_bytes words.now) result }
 {
-    if words.len() < 2 {
-        return Err(ArgumentFault::Usage);
-    }
-    let Some(budget) = number(words[1].as_bytes()) else {
+    let [file, budget, values @ ..] = words else {
         return Err(ArgumentFault::Usage);
     };
-    let values = numbers(heap, &words[2..])?;
-    match words[0].clone() {
-        Ok(file) => Ok(Request {
-            number: flag,
-            file,
-            budget,
-            values,
-        }),
-        Err(_) => Err(ArgumentFault::Memory),
-    }
+    let budget = number(budget.as_bytes()).ok_or(ArgumentFault::Usage)?;
+    let values = numbers(heap, values)?;
+    Ok(Request {
+        host,
+        file: file.clone()?,
+        budget,
+        values,
+    })
 }
 
 pub fn read_request(heap: Global, words: &[String]) -> Result<Request, ArgumentFault>
     ensures { Asks (map string_bytes words.now) result }
 {
-    if words.len() == 0 {
-        return Err(ArgumentFault::Usage);
-    }
-    if words[0].as_str() == "--number" {
-        read_after(heap, true, &words[1..])
-    } else {
-        read_after(heap, false, words)
+    match words {
+        [flag, rest @ ..] if flag.as_str() == "--number" => read_after(
+            heap,
+            HostKind::Number,
+            rest,
+        ),
+        _ => read_after(heap, HostKind::List, words),
     }
 }

@@ -8,10 +8,7 @@ use std::alloc::{AllocError, Global};
 pub fn start_store(heap: Global, values: &[u32], identifiers: usize) -> Result<Vec<u32>, AllocError>
     ensures { IfOk result (λ v. v.items ≡ store_of values.now identifiers) }
 {
-    let mut store = Vec::new(heap);
-    store.extend_from_slice(values)?;
-    if store.len() < identifiers {
-        store.resize(identifiers, 0)?;
-    }
+    let mut store = values.to_vec(heap)?;
+    store.resize(identifiers.max(values.len()), 0)?;
     Ok(store)
 }

@@ -1,30 +1,10 @@
-// The answers that a run did not ask for.
-ghost use Rattle.std.specs.Prelude.{◌≡◌};
-ghost use Rattle.host.specs.Hosts.{tape};
-ghost use Rattle.screen.specs.Unused.{left};
+// The answers that a run did not ask for: what a host has left is what a report calls unused.
+ghost use Rattle.std.specs.Prelude.{◌≡◌, length};
 
-use host::{Host, ListHost, Question, Reply};
+use host::ListHost;
 
-// A list host throws at the end of its list, so it is asked until then.
-pub fn unused(host: &mut ListHost) -> usize
-    ensures { result ≡ left (tape host.old.answers.now host.old.spent) }
+pub fn unused(host: &ListHost) -> usize
+    ensures { result ≡ length host.now.answers.now }
 {
-    let mut count = 0;
-    loop {
-        match host.ask(
-            Question {
-                kind: 42,
-                payload: 0,
-                position: 0,
-            },
-            &[],
-        ) {
-            Reply::Value(_) => {
-                count += 1;
-            }
-            Reply::Thrown(_) => {
-                return count;
-            }
-        }
-    }
+    host.left()
 }

@@ -3,11 +3,11 @@
 
 ghost use Rattle.std.specs.Prelude.{◌≡◌, false};
 
-use format::fault::{Layer, LoadFault};
+use format::fault::LoadFault;
 use hir::settled::Settled;
 use hir::tables::Tables;
 use load::load::load;
-use std::alloc::{AllocError, Global};
+use std::fmt;
 use std::io::{BufRead, BufReader};
 use text::bytes::bytes_of;
 use text::read::words;
@@ -16,53 +16,56 @@ use write::file::write;
 // As many bytes as the longest file has.
 const LONGEST: usize = 65536;
 
-fn layer_name(layer: Layer) -> &'static str {
-    match layer {
-        Layer::File => "file",
-        Layer::Check => "check",
-        Layer::Walk => "walk",
-        Layer::Call => "call",
-    }
+// What comes of a file: it is written back as it was, the load refuses it, or the writing fails.
+#[derive(Clone, Copy, Debug, PartialEq, Eq)]
+enum Outcome {
+    Back,
+    Refused(LoadFault),
+    TooLong,
+    WrittenIntoTooLittle,
+    RefusedOtherwise,
+    WrittenOtherwise,
 }
 
-fn refusal(heap: Global, fault: LoadFault) -> Result<String, AllocError> {
-    let number = fault.number();
-    let layer = layer_name(fault.layer());
-    let place = fault.place();
-    format!(in heap; "{number} {layer} {place}")
+impl fmt::Display for Outcome {
+    fn fmt<W: fmt::Write>(&self, f: &mut fmt::Formatter<W>) -> fmt::Result {
+        match self {
+            Outcome::Back => write!(f, "ok"),
+            Outcome::Refused(fault) => {
+                write!(f, "{} {} {}", fault.number(), fault.layer(), fault.place())
+            }
+            Outcome::TooLong => write!(f, "too long"),
+            Outcome::WrittenIntoTooLittle => write!(f, "written into too little"),
+            Outcome::RefusedOtherwise => write!(f, "refused otherwise"),
+            Outcome::WrittenOtherwise => write!(f, "written otherwise"),
+        }
+    }
 }
 
 // Writes the function: first into a buffer that is a byte too small, which is refused with 14, then into one that holds it.
-fn written(settled: Settled, tables: &Tables, bytes: &[u8], out: &mut [u8]) -> &'static str
+fn written(settled: Settled, tables: &Tables, bytes: &[u8], out: &mut [u8]) -> Outcome
     requires { tables.now.draft ≡ false }
 {
     if bytes.is_empty() || out.len() < bytes.len() {
-        return "too long";
+        return Outcome::TooLong;
     }
-    let short = bytes.len() - 1;
-    let settled = match write(settled, tables, &mut out[0..short]) {
-        Ok(_) => return "written into too little",
-        Err(refused) => refused,
+    let Err(refused) = write(settled, tables, &mut out[..bytes.len() - 1]) else {
+        return Outcome::WrittenIntoTooLittle;
     };
-    if settled.fault.number() != 14 {
-        return "refused otherwise";
+    if refused.fault.number() != 14 {
+        return Outcome::RefusedOtherwise;
     }
-    match write(settled.settled, tables, out) {
-        Ok(length) if length == bytes.len() && &out[0..length] == bytes => "ok",
-        _ => "written otherwise",
+    match write(refused.settled, tables, out) {
+        Ok(length) if length == bytes.len() && &out[..length] == bytes => Outcome::Back,
+        _ => Outcome::WrittenOtherwise,
     }
 }
 
 // Loads the bytes, and writes them back where they are a function.
-fn answer(
-    heap: Global,
-    tables: &mut Tables,
-    bytes: &[u8],
-    out: &mut [u8],
-) -> Result<String, AllocError> {
+fn answer(tables: &mut Tables, bytes: &[u8], out: &mut [u8]) -> Outcome {
     match load(tables, bytes) {
-        Err(fault) => refusal(heap, fault),
-        Ok(settled) => String::from_str(heap, written(settled, tables, bytes, out)),
+        Err(fault) => Outcome::Refused(fault),
+        Ok(settled) => written(settled, tables, bytes, out),
     }
 }
 
@@ -78,17 +81,15 @@ fn main(rt: HostRuntime) -> anyhow::Result<()> {
         let Some((line_words, expected)) = line.as_str().split_once('|') else {
             continue;
         };
-        let said = match words(heap, line_words.as_bytes()) {
-            Ok(said) => said,
-            Err(_) => continue,
+        let Ok(said) = words(heap, line_words.as_bytes()) else {
+            continue;
         };
         let bytes = bytes_of(heap, said.as_slice())?;
-        let answered = answer(heap, &mut tables, bytes.as_slice(), out.as_mut_slice())?;
-        let expected = expected.trim();
-        if answered.as_str() != expected {
+        let answered = answer(&mut tables, bytes.as_slice(), out.as_mut_slice());
+        if answered.to_string(heap)?.as_str() != expected.trim() {
             println!(rt; "{answered}: {line}")?;
             wrong = wrong.saturating_add(1);
-        } else if expected == "ok" {
+        } else if answered == Outcome::Back {
             back = back.saturating_add(1);
         } else {
             refused = refused.saturating_add(1);
