@@ -1,4 +1,0 @@
-use Rattle.questions.proofs.operations.+value_own.Given as goal
-
-abbrev pub decreases-value_own : goal.decreases-value_own
-decreases-value_own l = l.depth
