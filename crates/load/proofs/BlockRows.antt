@@ -143,6 +143,12 @@ stmt_short d c h = ap (λ r. onto r (λ _. stmt_read (block d))) h
 pub stmt_from : (d : ℕ) (c : Cursor) {c₁ : Cursor} {x : Read Stmt} → begin_statement c ≡ Ok (tt, c₁) → stmt_read (block d) c₁ ≡ x → one_stmt d c ≡ x
 stmt_from d c h e = ap (λ r. onto r (λ _. stmt_read (block d))) h ∙ e
 
+-- room for one more statement
+pub stmt_room : {d n m : ℕ} {a b e : Arena} {c c₁ c₂ c₃ : Cursor} {s : ReactiveStatement} → Room a c.used → StmtsIn d n a b c c₁ → begin_statement c₁ ≡ Ok (tt, c₂) → BlockIn (stmt_read (block d)) (stmt_in d) b e c₂ c₃ s → c₃.used.statements ≤ m → (vec_len e.statements.vec < m) × (vec_len e.entries.waiting.vec < m)
+stmt_room {c₁ = c₁} {c₂ = c₂} r m h x k =
+    let w = statement_begun c₁ (tt, c₂) h in
+    (omega (arith, r.statements, m.step.statements, x.frame.step.statements, w.statements), omega (arith, r.entries, m.step.entries, x.frame.step.entries, w.statements))
+
 -- ---- a block
 abbrev pub Settled : Arena → Arena → ℕ → Range → Type 0
 Settled a b base r =
@@ -302,6 +308,12 @@ case_short d c h = ap (λ r. onto r (λ _. case_read d)) h
 
 pub case_further : (d : ℕ) (c : Cursor) {c₁ : Cursor} {x : Read (Option Place × OptBlock)} → begin_case c ≡ Ok (tt, c₁) → case_read d c₁ ≡ x → one_case d c ≡ x
 case_further d c h e = ap (λ r. onto r (λ _. case_read d)) h ∙ e
+
+-- room for one more case
+pub case_room : {d n m : ℕ} {a b e : Arena} {c c₁ c₂ c₃ : Cursor} {k : ReactiveSwitchCase} → Room a c.used → CasesIn d n a b c c₁ → begin_case c₁ ≡ Ok (tt, c₂) → BlockIn (case_read d) (case_in d) b e c₂ c₃ k → c₃.used.cases ≤ m → vec_len e.cases.waiting.vec < m
+case_room {c₁ = c₁} {c₂ = c₂} r m h x k =
+    let w = case_begun c₁ (tt, c₂) h in
+    omega (arith, r.cases, m.step.cases, x.frame.step.cases, w.cases)
 
 -- the row of cases
 abbrev pub CasesSettled : Arena → Arena → ℕ → Range → Type 0

@@ -11,7 +11,7 @@ use Rattle.hir.specs.Held.{owned, scopes_from}
 use Rattle.hir.specs.Limits.{Within, limits}
 use Rattle.format.specs.declared.fault.FileFault.{FileFault}
 use Rattle.format.specs.Parse.{Cursor, Read, onto, give, word, option, times, until_end, every, begin_scope, identifier, early_read, declaration, scope_info}
-use Rattle.load.specs.Environments.{none_left, TablesRoom, IdentifiersMid, declared, DeclarationsIn, ScopeIn, Owners, infos, ScopesMid, Midway}
+use Rattle.load.specs.Environments.{none_left, TablesRoom, IdentifiersIn, IdentifiersMid, declared, DeclarationsIn, ScopeIn, Owners, infos, ScopesIn, ScopesMid, Midway}
 use Rattle.load.specs.Files.{NoneIn, IdentifiersRead, ScopesRead}
 use Rattle.load.proofs.FileSteps.{whole_ok}
 use Rattle.load.proofs.Lies.{none_none}
@@ -99,6 +99,10 @@ identifiers_next {a} {b} {e} {c} {d} {f} {i} m h r p =
 pub identifier_room : {n : ℕ} {a b : Environment} {c d f : Cursor} {i : Identifier} → IdentifiersMid a b c d → identifier d ≡ Ok (i, f) → f.used.identifiers ≤ n → vec_len b.identifiers.vec < n
 identifier_room {d = d} {f = f} {i = i} m r h = omega (arith, m.room.identifiers, (identifier_counted d (i, f) r).identifiers)
 
+pub identifiers_in : {a b : Environment} {c d : Cursor} → IdentifiersMid a b c d → none_left d.rest ≡ true → IdentifiersIn a b c d
+identifiers_in m h =
+    record { row = m.row; parsed = mid_end identifier m.mid h; items = m.items; room = m.room; scopes = m.scopes; declarations = m.declarations; counters = m.counters }
+
 pub identifiers_read : {a b : Environment} {c d : Cursor} → IdentifiersMid a b c d → none_left d.rest ≡ true → Within d.used limits → IdentifiersRead a b c d.used
 identifiers_read {a} {b} {c} {d} m h w =
     record {
@@ -132,6 +136,9 @@ declarations_repeat = record { none = λ c. refl; next = λ n c. refl; last = λ
 declared_after : (n : ℕ) (ds : List ReactiveScopeDeclaration) (d : ReactiveScopeDeclaration) → declared n (ds ++ d ∷ []) ≡ declared n ds ++ record { owner = n; declaration = d } ∷ []
 declared_after n [] d = refl
 declared_after n (e ∷ ds) d = ap (λ l. record { owner = n; declaration = e } ∷ l) (declared_after n ds d)
+
+pub declarations_none : {o : ℕ} {a : Environment} {c : Cursor} → TablesRoom a c.used → DeclarationsIn o 0 a a c c
+declarations_none r = record { row = []; parsed = refl; items = sym (append-nil _); room = r; later = omega arith; scopes = refl; identifiers = refl; counters = refl }
 
 pub declarations_after : {o n : ℕ} {a b e : Environment} {c d f : Cursor} {x : ReactiveScopeDeclaration} → DeclarationsIn o n a b c d → declaration d ≡ Ok (x, f) → DeclarationAdded b e (record { owner = o; declaration = x }) → DeclarationsIn o (n + 1) a e c f
 declarations_after {o} {n} {a} {b} {e} {c} {d} {f} {x} m r p =
@@ -254,6 +261,9 @@ scopes_next {a} {b} {e} {c} {d} {f} m h s =
 
 pub no_owners : (a : Environment) → vec_items a.declarations.vec ≡ [] → Owners a
 no_owners a d = λ x h. ap (owned x) d
+
+pub scopes_in : {a b : Environment} {c d : Cursor} → ScopesMid a b c d → none_left d.rest ≡ true → ScopesIn a b c d
+scopes_in m h = record { row = m.row; parsed = mid_end scope_info m.mid h; stands = m.stands; owners = m.owners; room = m.room; identifiers = m.identifiers; counters = m.counters }
 
 pub scopes_read : {a b : Environment} {c d : Cursor} → ScopesMid a b c d → none_left d.rest ≡ true → Within d.used limits → ScopesRead a b c d.used
 scopes_read {a} {b} {c} {d} m h w =

@@ -19,6 +19,16 @@ pub record TablesRoom (e : Environment) (u : Used) : Type 0 where
   pub scopes : vec_len e.scopes.vec ≤ u.scopes
   pub declarations : vec_len e.declarations.vec ≤ u.declarations
 
+-- the identifiers that a section's reader read, and where it stands after them
+pub record IdentifiersIn (a b : Environment) (c d : Cursor) : Type 0 where
+  pub row : List Identifier
+  pub parsed : every identifier c ≡ Ok (row, d)
+  pub items : vec_items b.identifiers.vec ≡ vec_items a.identifiers.vec ++ row
+  pub room : TablesRoom b d.used
+  pub scopes : b.scopes.vec ≡ a.scopes.vec
+  pub declarations : b.declarations.vec ≡ a.declarations.vec
+  pub counters : b.counters ≡ a.counters
+
 -- as a scope's list holds them
 abbrev pub declared : ℕ → List ReactiveScopeDeclaration → List Declared
 declared n [] = []
@@ -49,6 +59,16 @@ Owners e = (x : ℕ) → vec_len e.scopes.vec ≤ x → owned x (vec_items e.dec
 
 abbrev pub infos : Environment → List ScopeInfo
 infos e = scopes_from 0 (vec_items e.scopes.vec) (vec_items e.declarations.vec)
+
+-- the scopes that a section's reader read, and where it stands after them
+pub record ScopesIn (a b : Environment) (c d : Cursor) : Type 0 where
+  pub row : List ScopeInfo
+  pub parsed : every scope_info c ≡ Ok (row, d)
+  pub stands : infos b ≡ infos a ++ row
+  pub owners : Owners b
+  pub room : TablesRoom b d.used
+  pub identifiers : b.identifiers.vec ≡ a.identifiers.vec
+  pub counters : b.counters ≡ a.counters
 
 -- ---- in the middle of a section: the items so far, and what the rest is still to be read by
 pub record Midway {X : Type 0} (p : Cursor → Read X) (row : List X) (c d : Cursor) : Type 0 where

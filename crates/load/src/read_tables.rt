@@ -1,7 +1,7 @@
 // The sections of the counters, the identifiers and the scopes; each is read to its end.
-ghost use Rattle.std.specs.Prelude.{◌≡◌, Err, MatchResult};
+ghost use Rattle.std.specs.Prelude.{◌≡◌, Err, IfOk, MatchResult};
 ghost use Rattle.format.specs.Parse.{every, times, counters as counters_item, identifier as identifier_item, scope_info, declaration as declaration_item};
-ghost use Rattle.load.specs.Environments.{TablesRoom, DeclarationsIn, ScopeIn, Owners};
+ghost use Rattle.load.specs.Environments.{TablesRoom, IdentifiersIn, DeclarationsIn, ScopeIn, ScopesIn, Owners};
 ghost use Rattle.load.specs.Files.{whole, CountersRead, IdentifiersRead, ScopesRead};
 ghost use Rattle.load.specs.Reads.{cursor};
 
@@ -25,7 +25,8 @@ pub fn read_identifiers(
     reader: &mut Reader,
 ) -> Result<Used, FileFault>
     requires { TablesRoom environment.old reader.old.used }
-    ensures { MatchResult result (IdentifiersRead environment.old environment.new (cursor reader.old)) (λ e. every identifier_item (cursor reader.old) ≡ Err e) }
+    ensures answer { MatchResult result (IdentifiersRead environment.old environment.new (cursor reader.old)) (λ e. every identifier_item (cursor reader.old) ≡ Err e) }
+    ensures reads { IfOk result (λ _. IdentifiersIn environment.old environment.new (cursor reader.old) (cursor reader.new)) }
 {
     'items: while !reader.ended() {
         let identifier = reader.item()?;
@@ -71,7 +72,8 @@ fn read_declarations(
 pub fn read_scopes(environment: &mut Environment, reader: &mut Reader) -> Result<Used, FileFault>
     requires room { TablesRoom environment.old reader.old.used }
     requires owners { Owners environment.old }
-    ensures { MatchResult result (ScopesRead environment.old environment.new (cursor reader.old)) (λ e. every scope_info (cursor reader.old) ≡ Err e) }
+    ensures answer { MatchResult result (ScopesRead environment.old environment.new (cursor reader.old)) (λ e. every scope_info (cursor reader.old) ≡ Err e) }
+    ensures reads { IfOk result (λ _. ScopesIn environment.old environment.new (cursor reader.old) (cursor reader.new)) }
 {
     'items: while !reader.ended() {
         read_scope(environment, reader)?;
