@@ -13,3 +13,4 @@ pub mod Claims
 pub mod ScopeLists
 pub mod Decided
 pub mod HeldTables
+pub mod Marks

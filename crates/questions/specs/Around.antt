@@ -1,8 +1,9 @@
 -- What the code's record of the surroundings stands for. Assumes nothing.
-use Rattle.std.specs.Prelude.{ℕ, Bool, true, Some, None, Option, nat_lt}
+use Rattle.std.specs.Prelude.{ℕ, Bool, true, List, [], ◌∷◌, Some, None, Option, nat_lt}
 use Rattle.semantics.specs.Targets as T
-use Rattle.semantics.specs.Targets.{nowhere, labelled, in_switch, in_loop, hits}
-use Rattle.questions.specs.declared.around.Around.{Around, Nowhere, Within'}
+use Rattle.semantics.specs.Targets.{labelled, in_switch, in_loop, hits}
+use Rattle.questions.specs.declared.around.Around.{Around}
+use Rattle.questions.specs.declared.around.Labels.{Labels, Nowhere, Within'}
 use Rattle.questions.specs.declared.around.Inside.{Inside}
 use Rattle.questions.specs.declared.around.Inside.TheVariants.{Plain, Switch, Loop}
 use Rattle.questions.specs.declared.around.Jump.{Jump}
@@ -14,9 +15,12 @@ inside_of Plain m a = labelled m a
 inside_of Switch m a = in_switch (labelled m a)
 inside_of Loop m a = in_loop m (labelled m a)
 
+abbrev pub labels_of : Labels → List ℕ
+labels_of Nowhere = []
+labels_of (Within' l p ls) = l ∷ labels_of ls
+
 abbrev pub around_of : Around → T.Around
-around_of Nowhere = nowhere
-around_of (Within' m i p a) = inside_of i m (around_of a)
+around_of a = record { labels = labels_of a.labels; loops = labels_of a.loops; looped = a.looped; breaks = a.breaks }
 
 abbrev pub jump_aims : Jump → T.Around → Bool
 jump_aims (Break l k) a = hits a.breaks a.labels l k

@@ -1,7 +1,7 @@
 // What stands around a statement: the labels that jumps may name, the loops and the switches.
 ghost use Rattle.std.specs.Prelude.{◌≡◌, []};
-ghost use Rattle.semantics.specs.Targets.{nowhere, mark, plus, hits};
-ghost use Rattle.questions.specs.Around.{around_of, inside_of, jump_aims, opt_jump_aims, jump_in};
+ghost use Rattle.semantics.specs.Targets.{has, plus, mark, hits};
+ghost use Rattle.questions.specs.Around.{labels_of, around_of, inside_of, opt_jump_aims, jump_in};
 
 use crate::line::Bounds;
 use hir::terminal::{ReactiveLabel, ReactiveTerminalTargetKind};
@@ -20,36 +20,63 @@ pub enum Jump {
     Continue(u32, ReactiveTerminalTargetKind),
 }
 
-// The innermost terminal around a statement, with the label that jumps may name, and what stands around that terminal.
-// No Option of a level: its methods would be functions over an Option.
+// The labels that a jump may name, the innermost first. No Option of a link: its methods would be functions over an Option.
 #[derive(Clone, Copy)]
-pub enum Around<'a> {
+pub enum Labels<'a> {
     Nowhere,
-    Within {
-        label: Option<u32>,
-        inside: Inside,
-        outer: &'a Around<'a>,
-    },
+    Within { label: u32, outer: &'a Labels<'a> },
 }
 
-// Whether a terminal is the target of a jump inside it, where `unlabeled` tells whether it is that of one without label.
-fn ends(label: Option<u32>, unlabeled: bool, target: u32, kind: ReactiveTerminalTargetKind) -> bool
-    ensures { result ≡ hits unlabeled (plus label []) target kind }
+// The labels, and those of loops; whether there is a loop, and whether there is a loop or a switch. The two flags stand here so
+// that a jump without label need not look for its target.
+#[derive(Clone, Copy)]
+pub struct Around<'a> {
+    pub labels: Labels<'a>,
+    pub loops: Labels<'a>,
+    pub looped: bool,
+    pub breaks: bool,
+}
+
+// What stands around a function's body.
+pub const NOWHERE: Around<'static> = Around {
+    labels: Labels::Nowhere,
+    loops: Labels::Nowhere,
+    looped: false,
+    breaks: false,
+};
+
+impl Labels<'_> {
+    fn has(&self, label: u32) -> bool
+        ensures { result ≡ has label (labels_of self.now) }
+    {
+        match *self {
+            Labels::Nowhere => false,
+            Labels::Within { label: here, outer } => label == here || outer.has(label),
+        }
+    }
+
+    // One label more, if there is one.
+    fn with(&self, label: Option<u32>) -> Labels<'_>
+        ensures { labels_of result ≡ plus label (labels_of self.now) }
+    {
+        match label {
+            None => *self,
+            Some(label) => Labels::Within {
+                label,
+                outer: &*self,
+            },
+        }
+    }
+}
+
+// Whether a jump has its target, where `unlabeled` tells of one without label.
+fn reaches(unlabeled: bool, labels: &Labels, target: u32, kind: ReactiveTerminalTargetKind) -> bool
+    ensures { result ≡ hits unlabeled (labels_of labels.now) target kind }
 {
     match kind {
         ReactiveTerminalTargetKind::Implicit => true,
         ReactiveTerminalTargetKind::Unlabeled => unlabeled,
-        ReactiveTerminalTargetKind::Labeled => label.is_some_and(|label| label == target),
-    }
-}
-
-impl Jump {
-    // Whether the jump needs no target.
-    fn is_implicit(self) -> bool
-        ensures { result ≡ jump_aims self nowhere }
-    {
-        let (Jump::Break(_, kind) | Jump::Continue(_, kind)) = self;
-        matches!(kind, ReactiveTerminalTargetKind::Implicit)
+        ReactiveTerminalTargetKind::Labeled => labels.has(target),
     }
 }
 
@@ -70,32 +97,9 @@ impl Around<'_> {
     {
         // A match: no proof is found for a closure that holds what stands around.
         match jump {
-            Some(jump) => self.has_target(jump),
             None => true,
-        }
-    }
-
-    // Whether what stands here has the target of a jump.
-    fn has_target(&self, jump: Jump) -> bool
-        ensures { result ≡ jump_aims jump (around_of self.now) }
-    {
-        match *self {
-            Around::Nowhere => jump.is_implicit(),
-            Around::Within {
-                label,
-                inside,
-                outer,
-            } => {
-                let here = match jump {
-                    Jump::Break(target, kind) => {
-                        ends(label, inside != Inside::Plain, target, kind)
-                    }
-                    Jump::Continue(target, kind) => {
-                        inside == Inside::Loop && ends(label, true, target, kind)
-                    }
-                };
-                here || outer.has_target(jump)
-            }
+            Some(Jump::Break(target, kind)) => reaches(self.breaks, &self.labels, target, kind),
+            Some(Jump::Continue(target, kind)) => reaches(self.looped, &self.loops, target, kind),
         }
     }
 
@@ -103,10 +107,21 @@ impl Around<'_> {
     pub fn within(&self, label: Option<ReactiveLabel>, inside: Inside) -> Around<'_>
         ensures { around_of result ≡ inside_of inside (mark label) (around_of self.now) }
     {
-        Around::Within {
-            label: label.and_then(ReactiveLabel::named),
-            inside,
-            outer: &*self,
+        let name = label.and_then(ReactiveLabel::named);
+        let labels = self.labels.with(name);
+        match inside {
+            Inside::Plain => Around { labels, ..*self },
+            Inside::Switch => Around {
+                labels,
+                breaks: true,
+                ..*self
+            },
+            Inside::Loop => Around {
+                labels,
+                loops: self.loops.with(name),
+                looped: true,
+                breaks: true,
+            },
         }
     }
 }

@@ -7,7 +7,7 @@ ghost use Rattle.hir.specs.Held.{held, slots};
 ghost use Rattle.hir.specs.Sizes.{sizes};
 ghost use Rattle.questions.specs.Answers.{Answers, answer_of};
 
-use crate::around::Around;
+use crate::around::NOWHERE;
 use crate::line::{Bounds, Findings, NOTHING};
 use crate::pass::Pass;
 use crate::tables::no_records;
@@ -65,6 +65,6 @@ pub fn check(
         bounds,
         found: NOTHING,
     };
-    pass.block(root, deepest(), &Around::Nowhere);
+    pass.block(root, deepest(), &NOWHERE);
     pass.found.answer(no_records(&environment.scopes.vec))
 }
