@@ -1,6 +1,7 @@
 -- What is left to write of a list of words, as a loop writes it item by item. Assumes nothing.
-use Rattle.std.proofs.Common.{◌≡◌, ℕ, ◌+◌, ◌<◌, List, [], ◌∷◌, ◌++◌, length, get_or, drop, sym, ap, ◌∙◌, subst, arith, length-append}
+use Rattle.std.proofs.Common.{◌≡◌, ℕ, ◌+◌, ◌<◌, List, [], ◌∷◌, ◌++◌, length, get_or, drop, sym, refl, ap, ◌∙◌, subst, arith, append_assoc, length-append}
 use Rattle.std.proofs.lemmas.List.{drop_more}
+use Rattle.hir.specs.Encode.{items_words}
 use Rattle.write.specs.declared.writer.Writer.{Writer}
 use Rattle.write.specs.Puts.{Room, Wrote}
 use Rattle.write.proofs.Lay.{wrote_none, wrote_more, wrote_as}
@@ -26,3 +27,7 @@ left_end {w = w} l e = l.rest w (wrote_as (sym e) (wrote_none w (omega (arith, l
 
 pub rest_is : {X : Type 0} (xs : List X) (i : ℕ) (x : X) → i < length xs → x ≡ get_or xs i x → drop i xs ≡ x ∷ drop (i + 1) xs
 rest_is xs i x h e = drop_more xs i x h ∙ ap (λ y. y ∷ drop (i + 1) xs) (sym e)
+
+pub items_append : {X : Type 0} (words : X → List ℕ) (xs ys : List X) → items_words words (xs ++ ys) ≡ items_words words xs ++ items_words words ys
+items_append words [] ys = refl
+items_append words (x ∷ xs) ys = ap (λ l. words x ++ l) (items_append words xs ys) ∙ sym (append_assoc (words x) (items_words words xs) (items_words words ys))
