@@ -20,7 +20,8 @@ impl Reader<'_> {
         let depth = depth.checked_sub(1).ok_or(FileFault::Limit(self.at))?;
         self.begin_value()?;
         let value = self.read_case(arena, depth)?;
-        Ok(arena.values.add(value))
+        let slot = arena.values.add(value);
+        Ok(slot)
     }
 
     #[cycle(read_values)]

@@ -118,4 +118,4 @@ read_value-returns-in_err-value t c =
 
 pub read_value-returns : goal.read_value-returns
 read_value-returns t c = ValueRing.value_in (one_less c.checked_sub.ensures c.in_ok-depth.ensures.ok_part) c.in_ok-begin_value.ensures c.in_ok-value.ensures
-    (record { slot = c.add.ensures.slot; items = c.add.ensures.items; len = c.add.ensures.len; instructions = refl; places = refl; waiting = refl })
+    (record { slot = c.add-slot.ensures.slot; items = c.add-slot.ensures.items; len = c.add-slot.ensures.len; instructions = refl; places = refl; waiting = refl })
