@@ -6,7 +6,7 @@ use hir::range::Range;
 use host::Thrown;
 use std::alloc::{AllocError, Global};
 
-// `frames` is the stack of what is left, its top last; `values` has the values of the question at hand.
+// `frames` is the stack of what is left, its top last; `values` has those of an operation's question.
 #[derive(Drop)]
 pub struct Memory {
     pub frames: Vec<Frame>,
