@@ -50,8 +50,7 @@ fn run_loaded(
     // A match: only a list has answers left, and a trait that tells them could not name the state of Host.
     match request.host {
         HostKind::Number => {
-            let mut host = NumberHost;
-            let ran = run(&mut memory, tables, &mut host, store, request.budget);
+            let ran = run(&mut memory, tables, &mut NumberHost, store, request.budget);
             told(heap, ran, store, 0)
         }
         HostKind::List => {

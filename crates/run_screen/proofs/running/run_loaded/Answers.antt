@@ -14,7 +14,7 @@ returns-in-Number c =
     let σ = c.as_mut_slice-store.result.now in
     let e = started c.args.tables.now (vec_items c.args.request.now.values) c.as_slice.result.now σ (vec_items c.in_ok-store.store) c.len-identifiers.result c.as_mut_slice-store.ensures.value c.in_ok-store.ensures c.as_slice.ensures.value c.len-identifiers.ensures in
     subst (λ (x : List ℕ). IfOk c.told.result (λ s. string_bytes s ≡ x))
-    (told none_left number_host F c.args.request.now.budget c.in_ok-memory.memory c.run-ran.new.memory tt tt σ c.run-ran.new.store c.run-ran.result c.run-ran.ensures
+    (told none_left number_host F c.args.request.now.budget c.in_ok-memory.memory c.run-ran.new.memory _ _ σ c.run-ran.new.store c.run-ran.result c.run-ran.ensures
     ∙ on_number (held c.args.request.now) c.args.answers.now F σ c.in-Number.is e)
     c.told.ensures
 
@@ -27,8 +27,7 @@ returns c =
     subst (λ (x : List ℕ). IfOk c.told-in-List.result (λ s. string_bytes s ≡ x))
     (ap (λ n. ran_lines c.run-ran-in-List.result c.run-ran-in-List.new.store n) c.unused-left.ensures
     ∙ told length list_host F B c.in_ok-memory.memory c.run-ran-in-List.new.memory
-    c.new-host.result.answers.now c.run-ran-in-List.new.host.answers.now
-    σ c.run-ran-in-List.new.store c.run-ran-in-List.result c.run-ran-in-List.ensures
+    _ _ σ c.run-ran-in-List.new.store c.run-ran-in-List.result c.run-ran-in-List.ensures
     ∙ ap (λ h. run_lines list_host length F B h σ) c.new-host.ensures
     ∙ on_list (held c.args.request.now) c.args.answers.now F σ c.in-List.is e)
     c.told-in-List.ensures
